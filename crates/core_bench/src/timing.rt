@@ -1,0 +1,207 @@
+// A million of each operation on fractions, beside as many checked operations of i128.
+ghost use Rattle.std.specs.Prelude.{◌≤◌, ◌<◌, ◌^◌};
+
+use anyhow::Result;
+use exact_frac::{Exact, Frac64, Frac128, Left};
+use std::alloc::{AllocError, Global};
+use std::hint::black_box;
+use std::io;
+use std::time::{CpuClock, Duration};
+
+// How many operands are made, how often each operation is done on all of them, and how many times
+// that is.
+const OPERANDS: u64 = 1_000;
+
+const ROUNDS: u64 = 1_000;
+
+const COUNT: u64 = 1_000_000;
+
+#[derive(Clone, Copy, Debug)]
+enum Operation {
+    Plus,
+    Minus,
+    Times,
+    Over,
+    Cmp,
+}
+
+const OPERATIONS: [Operation; 5] = [
+    Operation::Plus,
+    Operation::Minus,
+    Operation::Times,
+    Operation::Over,
+    Operation::Cmp,
+];
+
+/// Prints for each operation, width and kind of operands the nanoseconds of one operation, those
+/// of the checked one, and their ratio.
+pub fn run<R: Print + AllocGlobal + CpuClock>(rt: &R) -> Result<()> {
+    rt.println("operation,bits,operands,nanoseconds,checked,ratio")?;
+    report::<R, Frac64>(rt, "64,small", 1 << 10, 1 << 10)?;
+    report::<R, Frac64>(rt, "64,wide", 1 << 30, 1 << 30)?;
+    report::<R, Frac64>(rt, "64,whole", 1 << 30, 1)?;
+    report::<R, Frac128>(rt, "128,small", 1 << 10, 1 << 10)?;
+    report::<R, Frac128>(rt, "128,wide", 1 << 61, 1 << 61)?;
+    report::<R, Frac128>(rt, "128,whole", 1 << 61, 1)
+}
+
+// A line for each operation on fractions whose numbers are at most as given.
+fn report<R: Print + AllocGlobal + CpuClock, E: Exact>(
+    rt: &R,
+    kind: &str,
+    num: u64,
+    den: u64,
+) -> Result<()>
+    requires num_some { 1 ≤ num }
+    requires num_in { num ≤ 2 ^ 61 }
+    requires den_some { 1 ≤ den }
+    requires den_in { den ≤ 2 ^ 61 }
+{
+    let fractions = operands::<E>(rt.alloc(), num, den)?;
+    let numbers = numerators(rt.alloc(), fractions.as_slice())?;
+    for operation in OPERATIONS {
+        let exact = time_exact(rt, operation, fractions.as_slice())?;
+        let plain = time_plain(rt, operation, numbers.as_slice())?;
+        let ratio = exact.saturating_mul(100) / plain.max(1);
+        let times = u128::from(COUNT);
+        rt.println(format_args!(
+            "{operation:?},{kind},{},{},{}.{:02}",
+            exact / times,
+            plain / times,
+            ratio / 100,
+            ratio % 100
+        ))?;
+    }
+    Ok(())
+}
+
+// Fractions of both signs, always the same.
+fn operands<E: Exact>(alloc: Global, num: u64, den: u64) -> std::result::Result<Vec<E>, AllocError>
+    requires num_some { 1 ≤ num }
+    requires num_in { num ≤ 2 ^ 61 }
+    requires den_some { 1 ≤ den }
+    requires den_in { den ≤ 2 ^ 61 }
+{
+    let mut all = Vec::new(alloc);
+    let mut state = 1;
+    for _ in 0..OPERANDS {
+        let first = next(state);
+        state = next(first);
+        let f = quotient(whole::<E>(first, num), whole::<E>(state, den));
+        all.push(if first % 2 == 0 { f } else { f.negated() })?;
+    }
+    Ok(all)
+}
+
+fn numerators<E: Exact>(alloc: Global, all: &[E]) -> std::result::Result<Vec<i128>, AllocError> {
+    let mut numbers = Vec::new(alloc);
+    for f in all {
+        numbers.push(f.num())?;
+    }
+    Ok(numbers)
+}
+
+// The next state of a linear congruential generator (Knuth's constants for 64 bits).
+fn next(state: u64) -> u64 {
+    state
+        .wrapping_mul(6364136223846793005)
+        .wrapping_add(1442695040888963407)
+}
+
+// A whole number from 1 to the bound.
+fn whole<E: Exact>(state: u64, bound: u64) -> E
+    requires some { 1 ≤ bound }
+    requires fits { bound ≤ 2 ^ 61 }
+{
+    E::of_whole(((state >> 2) % bound + 1) as i64)
+}
+
+// n over d, or n where there is no quotient.
+fn quotient<E: Exact>(n: E, d: E) -> E {
+    if d.sign() == 0 {
+        return n;
+    }
+    match n.over(d) {
+        Ok(q) => q,
+        Err(Left) => n,
+    }
+}
+
+// The nanoseconds that the operation takes on each two operands in turn.
+fn time_exact<R: CpuClock, E: Exact>(rt: &R, operation: Operation, all: &[E]) -> io::Result<u128> {
+    let start = rt.thread_cpu_time()?;
+    let mut sum = 0u128;
+    for _ in 0..ROUNDS {
+        sum ^= exact_round(operation, all);
+    }
+    let end = rt.thread_cpu_time()?;
+    Ok(spent(start, end, black_box(sum)))
+}
+
+fn time_plain<R: CpuClock>(rt: &R, operation: Operation, all: &[i128]) -> io::Result<u128> {
+    let start = rt.thread_cpu_time()?;
+    let mut sum = 0u128;
+    for _ in 0..ROUNDS {
+        sum ^= plain_round(operation, all);
+    }
+    let end = rt.thread_cpu_time()?;
+    Ok(spent(start, end, black_box(sum)))
+}
+
+// The time between, where the answers' sum is taken in so that none is left out.
+fn spent(start: Duration, end: Duration, sum: u128) -> u128 {
+    let nanoseconds = end.saturating_sub(start).as_nanos();
+    if sum == 1 {
+        nanoseconds | 1
+    } else {
+        nanoseconds
+    }
+}
+
+fn exact_round<E: Exact>(operation: Operation, all: &[E]) -> u128 {
+    let mut sum = 0;
+    let mut last = E::one();
+    for f in all {
+        sum ^= exact_answer(operation, last, *f);
+        last = *f;
+    }
+    sum
+}
+
+fn plain_round(operation: Operation, all: &[i128]) -> u128 {
+    let mut sum = 0;
+    let mut last = 1;
+    for x in all {
+        sum ^= plain_answer(operation, last, *x);
+        last = *x;
+    }
+    sum
+}
+
+fn exact_answer<E: Exact>(operation: Operation, a: E, b: E) -> u128 {
+    let answer = match operation {
+        Operation::Plus => a.plus(b),
+        Operation::Minus => a.minus(b),
+        Operation::Times => a.times(b),
+        Operation::Over => Ok(quotient(a, b)),
+        Operation::Cmp => Ok(if a < b { a } else { b }),
+    };
+    match answer {
+        Ok(f) => f.num().unsigned_abs(),
+        Err(Left) => 1,
+    }
+}
+
+fn plain_answer(operation: Operation, a: i128, b: i128) -> u128 {
+    let answer = match operation {
+        Operation::Plus => a.checked_add(b),
+        Operation::Minus => a.checked_sub(b),
+        Operation::Times => a.checked_mul(b),
+        Operation::Over => a.checked_div(b),
+        Operation::Cmp => Some(if a < b { a } else { b }),
+    };
+    match answer {
+        Some(n) => n.unsigned_abs(),
+        None => 1,
+    }
+}
