@@ -1,0 +1,13 @@
+use Rattle.std.proofs.Common.{◌≡◌, ◌+◌, ◌-◌, ◌≤◌, ℕ, List, take, length, IfSome}
+use Rattle.core_io.proofs.read_all.Given as goal
+
+abbrev pub invariant-loop-buffer : goal.invariant-loop-buffer
+invariant-loop-buffer g l = record {
+  kept : (other : List ℕ) → g.S.Shelf.told l.shelf other ≡ g.S.Shelf.told l.fn.shelf other;
+  counts : (other : List ℕ) → g.S.Shelf.faults l.fn.shelf other ≤ g.S.Shelf.faults l.shelf other;
+  within : length l.all.items ≤ l.most + 1;
+  bytes : IfSome (g.S.Shelf.told l.fn.shelf l.name) (λ bytes. l.all.items ≡ take (length l.all.items) bytes);
+}
+
+abbrev pub decreases-loop-buffer : goal.decreases-loop-buffer
+decreases-loop-buffer g l = (l.most + 1) - length l.all.items

@@ -1,0 +1,133 @@
+//! Shelves of named bytes and sinks of bytes, each with a count of its faults: in memory, over files and over
+//! the standard output.
+#![tactic(auto)]
+
+ghost use Rattle.std.specs.Prelude.{◌≡◌, ℕ, ◌+◌, ◌<◌, ◌≤◌, List, Option, length, take, IfOk, OnOk, OnErr, IfSome};
+ghost use Rattle.core_io.specs.Causes.{Rose, GivesIfTold, Appends, AppendsPart};
+
+use std::alloc::Global;
+
+mod calls;
+mod memory_shelf;
+mod memory_sink;
+mod system;
+
+pub use memory_shelf::MemShelf;
+pub use memory_sink::MemSink;
+pub use system::{FileShelf, OutSink};
+
+/// A call that failed, and whose fault was counted.
+#[derive(Clone, Copy, Debug, PartialEq, Eq)]
+pub struct Failed;
+
+/// Why a shelf gave nothing.
+#[derive(Clone, Copy, Debug, PartialEq, Eq)]
+pub enum ShelfFault {
+    /// A counted fault of the name that was asked.
+    Failed,
+    /// Memory ran out.
+    NoMemory,
+}
+
+/// Why the bytes under a name were not read whole.
+#[derive(Clone, Copy, Debug, PartialEq, Eq)]
+pub enum ReadAll {
+    /// A read failed, which the shelf counted under that name.
+    Fault,
+    /// There are more bytes than were asked for.
+    Long,
+    /// Memory ran out.
+    NoMemory,
+}
+
+/// Bytes by name, with a count of the faults of each name.
+pub trait Shelf {
+    /// The bytes under a name, where the shelf tells them.
+    ghost told: { Self → List ℕ → Option (List ℕ) };
+
+    /// How many reads of a name have failed.
+    ghost faults: { Self → List ℕ → ℕ };
+
+    /// Reads bytes of a name from place `at` on, counted from 0, and answers how many it put at the head of `into`.
+    /// It fails only with a counted fault of this name. Where memory runs out, `into` may hold anything.
+    fn read(&mut self, name: &str, at: u64, into: &mut [u8]) -> Result<usize, ShelfFault>
+        ensures kept { (other : List ℕ) → told self.new other ≡ told self.old other }
+        ensures counts { (other : List ℕ) → faults self.old other ≤ faults self.new other }
+        ensures fits { IfOk result (λ n. n ≤ length into.new) }
+        ensures gives { IfOk result (λ n. GivesIfTold (told self.old name.now) at n into.new) }
+        ensures cause { result ≡ Err ShelfFault.Failed → Rose (faults self.old name.now) (faults self.new name.now) };
+}
+
+/// A place where bytes are written one after the other, with a count of its faults.
+pub trait Sink {
+    /// All bytes written so far, where the sink tells them.
+    ghost written: { Self → Option (List ℕ) };
+
+    /// How many writes have failed.
+    ghost faults: { Self → ℕ };
+
+    /// Writes bytes from the head of the piece and answers how many, at least one where the piece has any.
+    /// It fails only with a counted fault, and then nothing is written.
+    fn write(&mut self, piece: &[u8]) -> Result<usize, Failed>
+        ensures fits { IfOk result (λ n. n ≤ length piece.now) }
+        ensures some { IfOk result (λ n. 0 < length piece.now → 0 < n) }
+        ensures appends { IfOk result (λ n. Appends (written self.old) (written self.new) (take n piece.now)) }
+        ensures unchanged { OnErr result (written self.new ≡ written self.old) }
+        ensures counts { faults self.old ≤ faults self.new }
+        ensures cause { OnErr result (Rose (faults self.old) (faults self.new)) };
+}
+
+/// The bytes under the name, at most `most` of them. Long says that more are there: it is answered once
+/// `most` + 1 bytes were read. Fault comes only from a counted fault of this name.
+pub fn read_all<S: Shelf>(
+    alloc: Global,
+    shelf: &mut S,
+    name: &str,
+    most: u64,
+) -> Result<Vec<u8>, ReadAll>
+    requires { most ≤ 4194304 }
+
+    ensures bytes { IfOk result (λ v. IfSome (S.told shelf.old name.now) (λ bytes. v.items ≡ bytes)) }
+    ensures at_most { IfOk result (λ v. length v.items ≤ most) }
+    ensures long { result ≡ Err ReadAll.Long → IfSome (S.told shelf.old name.now) (λ bytes. most < length bytes) }
+
+    // Only a fault of this name is answered as one, and a read changes no bytes.
+    ensures fault { result ≡ Err ReadAll.Fault → Rose (S.faults shelf.old name.now) (S.faults shelf.new name.now) }
+    ensures kept { (other : List ℕ) → S.told shelf.new other ≡ S.told shelf.old other }
+    ensures counts { (other : List ℕ) → S.faults shelf.old other ≤ S.faults shelf.new other }
+{
+    let mut all = Vec::new(alloc);
+    let mut buffer = [0u8; 4096];
+    while all.len() as u64 <= most {
+        let at = all.len() as u64;
+        let want = (most + 1 - at).min(4096) as usize;
+        match shelf.read(name, at, &mut buffer[..want]) {
+            Err(ShelfFault::Failed) => return Err(ReadAll::Fault),
+            Err(ShelfFault::NoMemory) => return Err(ReadAll::NoMemory),
+            Ok(0) => return Ok(all),
+            Ok(n) => match all.extend_from_slice(&buffer[..n]) {
+                Ok(()) => {}
+                Err(_) => return Err(ReadAll::NoMemory),
+            },
+        }
+    }
+    Err(ReadAll::Long)
+}
+
+/// Writes the whole text. Where a write fails, a part of the text from its head may have been written, and never
+/// all of it. Takes no memory.
+pub fn write_all<K: Sink>(sink: &mut K, text: &[u8]) -> Result<(), Failed>
+    ensures appends { OnOk result (Appends (K.written sink.old) (K.written sink.new) text.now) }
+    ensures part { OnErr result (AppendsPart (K.written sink.old) (K.written sink.new) text.now) }
+    ensures cause { OnErr result (Rose (K.faults sink.old) (K.faults sink.new)) }
+    ensures counts { K.faults sink.old ≤ K.faults sink.new }
+{
+    let mut done = 0;
+    while done < text.len() {
+        done += sink.write(&text[done..])?;
+    }
+    Ok(())
+}
+
+#[cfg(test)]
+mod tests;
