@@ -1,0 +1,11 @@
+mod Rows
+mod Digits
+mod AllRead
+mod Places
+mod Days
+mod Civil
+mod Unquoted
+pub mod Plain
+pub mod Numbers
+pub mod ReadBack
+pub mod Dates

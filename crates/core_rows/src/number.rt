@@ -1,0 +1,73 @@
+// The whole numbers that fields write.
+ghost use Rattle.std.specs.Prelude.{◌≡◌, ◌≤◌, ◌<◌, ◌+◌, ◌*◌, ◌^◌, nat_le, if◌then◌else◌, Some, None, IfSome, unsigned_abs};
+ghost use Rattle.std.specs.List.{list_all};
+ghost use Rattle.core_rows.specs.Fields.{at_most, digits_value, is_digit, number_of, positive, whole, wide};
+
+/// The value with one more digit at its end, where it is at most the greatest.
+fn with_digit(value: u128, digit: u8, greatest: u128) -> Option<u128>
+    ensures { result ≡ at_most greatest (Some (value * 10 + digit)) }
+{
+    let value = value.checked_mul(10)?.checked_add(u128::from(digit))?;
+    if value <= greatest { Some(value) } else { None }
+}
+
+/// The number that a field of digits writes, where it is at most the greatest.
+pub(crate) fn digits(field: &[u8], greatest: u128) -> Option<u128>
+    ensures value { result ≡ (if list_all is_digit field.now then at_most greatest (Some (digits_value field.now)) else None) }
+    ensures bound { IfSome result (λ n. n ≤ greatest) }
+{
+    let mut value = 0u128;
+    for b in field {
+        if !b.is_ascii_digit() {
+            return None;
+        }
+        value = with_digit(value, *b - b'0', greatest)?;
+    }
+    Some(value)
+}
+
+/// The number that digits write, the first of which is not 0, where it is at most the greatest.
+fn positive(field: &[u8], greatest: u128) -> Option<u128>
+    ensures value { result ≡ at_most greatest (positive field.now) }
+    ensures bound { IfSome result (λ n. n ≤ greatest) }
+{
+    match field.first() {
+        None | Some(b'0') => None,
+        _ => digits(field, greatest),
+    }
+}
+
+/// The number that a field writes, where its absolute value is at most the greatest.
+fn number_of(field: &[u8], greatest: u128) -> Option<i128>
+    requires { greatest < 2 ^ 127 }
+    ensures value { result ≡ number_of greatest field.now }
+    ensures bound { IfSome result (λ z. unsigned_abs z ≤ greatest) }
+{
+    match field {
+        [b'-', digits @ ..] => {
+            let n = positive(digits, greatest)?;
+            Some(-(n as i128))
+        }
+        [b'0'] => Some(0),
+        _ => {
+            let n = positive(field, greatest)?;
+            Some(n as i128)
+        }
+    }
+}
+
+/// The number that a field writes: `0`, or an optional `-`, a digit 1 to 9 and any digits. None exactly where the
+/// field is outside this grammar, or the absolute value is above 2^63 - 1.
+pub fn whole(field: &[u8]) -> Option<i64>
+    ensures { result ≡ whole field.now }
+{
+    let n = number_of(field, i64::MAX as u128)?;
+    Some(n as i64)
+}
+
+/// The number that a field writes, as `whole`, with an absolute value of at most 2^127 - 1.
+pub fn wide(field: &[u8]) -> Option<i128>
+    ensures { result ≡ wide field.now }
+{
+    number_of(field, i128::MAX as u128)
+}
