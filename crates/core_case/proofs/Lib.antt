@@ -1,0 +1,3 @@
+mod Lookups
+mod Ranges
+pub mod Sound
