@@ -1,0 +1,17 @@
+//! What the weights of a certificate show of its case, whoever made them and however wide their numbers are.
+//!
+//! Weights are dual values of the close-out as a linear programme. That their bound is below every loss is weak
+//! duality, and that refusing weights leave no calendar is one direction of Farkas' lemma (Farkas 1902).
+#![tactic(auto)]
+
+ghost use Rattle.core_check.specs.Laws.{MetBoundShowsLeast, RefusingShowsNone};
+
+/// The law of bounding weights: an admissible calendar whose worst loss meets their bound is least.
+pub fn weights_bound()
+    ensures { MetBoundShowsLeast }
+{}
+
+/// The law of refusing weights: they show that no calendar is admissible.
+pub fn weights_refuse()
+    ensures { RefusingShowsNone }
+{}

@@ -1,0 +1,4 @@
+pub mod Closing
+pub mod Bounds
+pub mod Shows
+pub mod Fits
