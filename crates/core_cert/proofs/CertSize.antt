@@ -1,0 +1,183 @@
+-- The text of a certificate that fits a case takes at most 4,194,304 bytes.
+use Rattle.std.proofs.Common.{◌≡◌, ◌∷◌, ◌++◌, [], ℕ, suc, ◌+◌, ◌*◌, ◌-◌, ◌<◌, ◌≤◌, ℤ, pos, List, length, arith, codes, decimal, length-append, lit<, refl, inl, inr, int_lt}
+use Rattle.std.proofs.lemmas.Bool.{cases_Bool}
+use Rattle.std.proofs.lemmas.Fmt.{length-decimal-le_wide}
+use Rattle.core_sums.specs.Places.{at, row_at}
+use Rattle.core_rows.specs.Fields.{IsName, number_text, row_text}
+use Rattle.core_rows.specs.Names.{Record}
+use Rattle.core_rows.specs.Written.{rows_text}
+use Rattle.core_case.specs.View.{CaseView, instrument, instrument_of, line, no_instrument, no_line, no_pool, pool}
+use Rattle.core_case.specs.Kept.{IsCase}
+use Rattle.core_model.specs.declared.cert.Calendar.{Calendar}
+use Rattle.core_model.specs.declared.cert.Weights.{Weights}
+use Rattle.core_model.specs.declared.cert.Cert.{Cert}
+use Rattle.core_model.specs.declared.cert.Cert.TheVariants.{Closes, Cannot}
+use Rattle.core_model.specs.Fits.{CalendarFits, Fits, IsKept, WeightsFit}
+use Rattle.core_cert.specs.Written.{amount_record, amount_records, cert_text, closing_days, constraint_records, day_record, floored, full_of, full_record, full_records, inner_records, limit_days, limit_records, line_amounts, line_fields, most_bytes, pool_days, pool_records, scenario_days, scenario_on, scenario_records, side_word, word_record}
+use Rattle.core_cert.proofs.FewLines.{lines-few}
+use Rattle.core_cert.proofs.Printed.{rows_text-append, rows_text-cons, rows_text-none}
+use Rattle.core_cert.proofs.Size.{at-kept, below-short, days-short, number_text-short, numbered-short, row_text-five, row_text-four, row_text-two, side_word-short}
+
+-- a day takes at most two digits
+decimal-short : (day : ℕ) → day < 100 → length (decimal day) ≤ 2
+decimal-short day low = length-decimal-le_wide 2 day (lit< tt) (omega (arith, low)) (omega (arith, low))
+
+-- each kind of record
+word_record-short : (word : List ℕ) (z : ℤ) → length word ≤ 8 → IsKept z → length (row_text (word_record word z)) ≤ 50
+word_record-short word z short kept =
+    let number = number_text-short z kept in
+    omega (arith, row_text-two word (number_text z), short, number)
+
+day_record-short : (word name : List ℕ) (day : ℕ) (z : ℤ) → length word ≤ 8 → IsName name → day < 100 → IsKept z
+    → length (rows_text (day_record word name day z)) ≤ 66
+day_record-short word name day z short good low kept =
+    let number = number_text-short z kept in
+    let digits = decimal-short day low in
+    let named = good.short in
+    numbered-short (word ∷ name ∷ decimal day ∷ []) z 66 (omega (arith, row_text-four word name (decimal day) (number_text z), short, named, digits, number))
+
+amount_record-short : (c : CaseView) (l day : ℕ) (z : ℤ) → IsName (instrument c (instrument_of c l)).name → day < 100 → IsKept z
+    → length (rows_text (amount_record c l day z)) ≤ 75
+amount_record-short c l day z good low kept =
+    let number = number_text-short z kept in
+    let digits = decimal-short day low in
+    let named = good.short in
+    let side = side_word-short (line c l).side in
+    numbered-short ((codes "amount" ∷ line_fields c l) ++ (decimal day ∷ [])) z 75
+    (omega (arith, row_text-five (codes "amount") (instrument c (instrument_of c l)).name (side_word (line c l).side) (decimal day) (number_text z), named, side, digits, number))
+
+full_record-short : (c : CaseView) (l : ℕ) (z : ℤ) → IsName (instrument c (instrument_of c l)).name → IsKept z
+    → length (rows_text (full_record c l z)) ≤ 75
+full_record-short c l z good kept =
+    let number = number_text-short z kept in
+    let named = good.short in
+    let side = side_word-short (line c l).side in
+    numbered-short (codes "full" ∷ line_fields c l) z 75
+    (omega (arith, row_text-four (codes "full") (instrument c (instrument_of c l)).name (side_word (line c l).side) (number_text z), named, side, number))
+
+-- the instrument of a line is one of the case's
+line-named : (c : CaseView) → IsCase c → (l : ℕ) → l < length c.lines → IsName (instrument c (instrument_of c l)).name
+line-named c kept l below = (kept.instruments.1 (instrument_of c l) no_instrument (kept.lines.0 l no_line below).known).name
+
+-- all records of each kind
+amounts-short : (c : CaseView) (x : Calendar) → IsCase c → CalendarFits c x → length (rows_text (amount_records c x)) ≤ 96000
+amounts-short c x kept fits =
+    let few = lines-few c kept in
+    let all = below-short (length c.lines) 1500 (line_amounts c x) of_line in
+    omega (arith, few, all)
+  where
+    of_line : (l : ℕ) → l < length c.lines → length (rows_text (line_amounts c x l)) ≤ 1500
+    of_line l below =
+        let days = days-short c.horizon 75 (λ u. amount_record c l u (at x.amounts (l * c.horizon + (u - 1))))
+        (λ u from to. amount_record-short c l u (at x.amounts (l * c.horizon + (u - 1))) (line-named c kept l below)
+        (omega (arith, to, kept.horizon.1)) (at-kept x.amounts (l * c.horizon + (u - 1)) fits.amounts.1)) in
+        omega (arith, days, kept.horizon.1)
+
+closing_days-short : (c : CaseView) (word name : List ℕ) (f : ℕ → ℤ) → IsCase c → length word ≤ 8 → IsName name → ((u : ℕ) → IsKept (f u))
+    → length (rows_text (closing_days c.horizon word name f)) ≤ 1320
+closing_days-short c word name f kept short good numbers =
+    let days = days-short c.horizon 66 (λ u. day_record word name u (f u))
+    (λ u from to. day_record-short word name u (f u) short good (omega (arith, to, kept.horizon.1)) (numbers u)) in
+    omega (arith, days, kept.horizon.1)
+
+scenarios-short : (c : CaseView) (w : Weights) → IsCase c → WeightsFit c w → length (rows_text (scenario_records c w)) ≤ 173184
+scenarios-short c w kept fits =
+    let all = below-short (length c.scenarios) 2706 (scenario_days c w) of_scenario in
+    omega (arith, all, kept.scenarios.1)
+  where
+    of_scenario : (k : ℕ) → k < length c.scenarios → length (rows_text (scenario_days c w k)) ≤ 2706
+    of_scenario k below =
+        let days = below-short (suc c.last) 66 (scenario_on c w k)
+        (λ t under. day_record-short (codes "scenario") (row_at c.scenarios k) t (at w.scenario (k * suc c.last + t)) (omega arith)
+        (kept.scenarios.2 k [] below) (omega (arith, under, kept.last.1)) (at-kept w.scenario (k * suc c.last + t) fits.scenario.1)) in
+        omega (arith, days, kept.last.1)
+
+limits-short : (c : CaseView) (w : Weights) → IsCase c → WeightsFit c w → length (rows_text (limit_records c w)) ≤ 42240
+limits-short c w kept fits =
+    let all = below-short (length c.instruments) 1320 (limit_days c w) of_instrument in
+    omega (arith, all, kept.instruments.0)
+  where
+    of_instrument : (i : ℕ) → i < length c.instruments → length (rows_text (limit_days c w i)) ≤ 1320
+    of_instrument i below = closing_days-short c (codes "limit") (instrument c i).name (λ u. at w.limit (i * c.horizon + (u - 1))) kept (omega arith)
+        (kept.instruments.1 i no_instrument below).name (λ u. at-kept w.limit (i * c.horizon + (u - 1)) fits.limit.1)
+
+pools-short : (c : CaseView) (w : Weights) → IsCase c → WeightsFit c w → length (rows_text (pool_records c w)) ≤ 21120
+pools-short c w kept fits =
+    let all = below-short (length c.pools) 1320 (pool_days c w) of_pool in
+    omega (arith, all, kept.pools.0)
+  where
+    of_pool : (p : ℕ) → p < length c.pools → length (rows_text (pool_days c w p)) ≤ 1320
+    of_pool p below = closing_days-short c (codes "pool") (pool c p).name (λ u. at w.pool (p * c.horizon + (u - 1))) kept (omega arith)
+        (kept.pools.1 p no_pool below).0 (λ u. at-kept w.pool (p * c.horizon + (u - 1)) fits.pool.1)
+
+fulls-short : (c : CaseView) (w : Weights) → IsCase c → WeightsFit c w → length (rows_text (full_records c w)) ≤ 4800
+fulls-short c w kept fits =
+    let few = lines-few c kept in
+    let all = below-short (length c.lines) 75 (full_of c w) (λ l below. full_record-short c l (at w.full l) (line-named c kept l below) (at-kept w.full l fits.full.1)) in
+    omega (arith, few, all)
+
+constraints-short : (c : CaseView) (w : Weights) → IsCase c → WeightsFit c w → length (rows_text (constraint_records c w)) ≤ 68160
+constraints-short c w kept fits =
+    let limits = limits-short c w kept fits in
+    let pools = pools-short c w kept fits in
+    let fulls = fulls-short c w kept fits in
+    rw (rows_text-append (limit_records c w ++ pool_records c w) (full_records c w), rows_text-append (limit_records c w) (pool_records c w))
+    (omega (
+      arith,
+      limits,
+      pools,
+      fulls,
+      length-append (rows_text (limit_records c w) ++ rows_text (pool_records c w)) (rows_text (full_records c w)),
+      length-append (rows_text (limit_records c w)) (rows_text (pool_records c w)),
+    ))
+
+-- the bytes of rows, one by one and part by part
+size-cons : (r : Record) (rs : List Record) → length (rows_text (r ∷ rs)) ≡ length (row_text r) + length (rows_text rs)
+size-cons r rs = rw (rows_text-cons r rs) (length-append (row_text r) (rows_text rs))
+
+size-append : (rs ss : List Record) → length (rows_text (rs ++ ss)) ≡ length (rows_text rs) + length (rows_text ss)
+size-append rs ss = rw (rows_text-append rs ss) (length-append (rows_text rs) (rows_text ss))
+
+size-none : length (rows_text []) ≡ 0
+size-none = rw rows_text-none refl
+
+-- a number that is floored stays within the width
+floored-kept : (z : ℤ) → IsKept z → IsKept (floored z)
+floored-kept z kept = elim (cases_Bool (int_lt (pos 0) z)) [
+  | inl above ↦ rw above kept
+  | inr low ↦ rw low (omega arith)
+]
+
+-- the records between the first and the last
+inner-short : (c : CaseView) (cert : Cert) → IsCase c → Fits c cert → length (rows_text (inner_records c cert)) ≤ 337544
+inner-short c (Closes x loss w) kept fits =
+    let amounts = amounts-short c x kept fits.0 in
+    let scenarios = scenarios-short c w kept fits.2 in
+    let constraints = constraints-short c w kept fits.2 in
+    let closes = word_record-short (codes "closes") x.den (omega arith) fits.0.den in
+    let lost = word_record-short (codes "loss") loss (omega arith) fits.1 in
+    let margin = word_record-short (codes "margin") (floored loss) (omega arith) (floored-kept loss fits.1) in
+    let weights = word_record-short (codes "weights") w.den (omega arith) fits.2.den in
+    closed (word_record (codes "closes") x.den) (word_record (codes "loss") loss) (word_record (codes "margin") (floored loss)) (word_record (codes "weights") w.den)
+    (amount_records c x) (scenario_records c w) (constraint_records c w) closes lost margin weights amounts scenarios constraints
+  where
+    closed : (a b d e : Record) (rs ss ts : List Record) → length (row_text a) ≤ 50 → length (row_text b) ≤ 50 → length (row_text d) ≤ 50 → length (row_text e) ≤ 50
+        → length (rows_text rs) ≤ 96000 → length (rows_text ss) ≤ 173184 → length (rows_text ts) ≤ 68160
+        → length (rows_text (a ∷ (rs ++ (b ∷ d ∷ e ∷ []) ++ ss ++ ts))) ≤ 337544
+    closed a b d e rs ss ts one two three four many more most = simp (size-cons, size-append, size-none) (omega (arith, one, two, three, four, many, more, most))
+inner-short c (Cannot w) kept fits =
+    let constraints = constraints-short c w kept fits in
+    let weights = word_record-short (codes "weights") w.den (omega arith) fits.den in
+    refused (codes "cannot" ∷ []) (word_record (codes "weights") w.den) (constraint_records c w) (omega arith) weights constraints
+  where
+    refused : (a b : Record) (rs : List Record) → length (row_text a) ≤ 50 → length (row_text b) ≤ 50 → length (rows_text rs) ≤ 68160
+        → length (rows_text (a ∷ b ∷ rs)) ≤ 337544
+    refused a b rs one two many = simp size-cons (omega (arith, one, two, many))
+
+-- the whole text
+pub cert_text-short : (c : CaseView) (cert : Cert) → IsCase c → Fits c cert → length (cert_text c cert) ≤ most_bytes
+cert_text-short c cert kept fits = whole (inner_records c cert) (inner-short c cert kept fits)
+  where
+    whole : (rs : List Record) → length (rows_text rs) ≤ 337544
+        → length (rows_text ((codes "cert" ∷ codes "1" ∷ []) ∷ (rs ++ ((codes "end" ∷ []) ∷ [])))) ≤ most_bytes
+    whole rs short = simp (size-cons, size-append, size-none) (omega (arith, short))
