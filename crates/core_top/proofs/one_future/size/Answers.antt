@@ -1,0 +1,20 @@
+use Rattle.std.proofs.Common.{◌≡◌, rules, ◌*ℤ◌, sym, subst, ℤ, FitsSigned, w64}
+use Rattle.std.proofs.lemmas.Int.{to_z-of_z}
+use Rattle.core_model.specs.Closing.{size}
+use Rattle.core_top.proofs.OneFutureFits.{size-fits}
+use Rattle.core_top.proofs.one_future.size.Goals as goal
+
+pub overflow_mul-result : goal.overflow_mul-result
+overflow_mul-result c =
+    let sign : FitsSigned w64 c.from.result = search rules in
+    let mult : FitsSigned w64 c.only_instrument.result.mult = search rules in
+    let same : c.from.result *ℤ c.only_instrument.result.mult ≡ size c.args.case.now 0 = search rules in
+    simp to_z-of_z (rw same (size-fits c.args.case.now c.requires.kept c.requires.one))
+
+pub returns : goal.returns
+returns c =
+    let sign : FitsSigned w64 c.from.result = search rules in
+    let mult : FitsSigned w64 c.only_instrument.result.mult = search rules in
+    let same : c.from.result *ℤ c.only_instrument.result.mult ≡ size c.args.case.now 0 = search rules in
+    let whole : FitsSigned w64 (c.from.result *ℤ c.only_instrument.result.mult) = rw same (size-fits c.args.case.now c.requires.kept c.requires.one) in
+    simp to_z-of_z same

@@ -1,0 +1,4 @@
+pub mod OneFuture
+pub mod Words
+pub mod Due
+pub mod Headline

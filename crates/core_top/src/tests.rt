@@ -1,0 +1,279 @@
+use super::core_call;
+use core_io::{MemShelf, MemSink};
+use std::alloc::{AllocError, Global};
+use std::test::Fail;
+
+/// The last house day, the instrument's market, multiplier, delay and lag, the limit, the scenario, its prices and
+/// the position.
+type Stated<'a> = [&'a str; 6];
+
+const GOOD: Stated = ["2", "MKT,1,1,1", "10", "DOWN", "100,90,90", "10"];
+
+const NO_DAY: &str = "cert,1\ncannot\nweights,1\nfull,IND,position,1\nend\n";
+
+const NO_ROOM: &str = "cert,1\ncannot\nweights,1\nlimit,IND,1,1\nfull,IND,position,1\nend\n";
+
+const OTHER_WORDS: [&[&str]; 7] = [
+    &[],
+    &["margin"],
+    &["margin", ""],
+    &["margin", "C", "-1"],
+    &["Margin", "C"],
+    &["check", "C"],
+    &["C", "margin"],
+];
+
+fn case_text(alloc: Global, stated: Stated) -> Result<String, AllocError> {
+    let [last, instrument, limit, scenario, prices, position] = stated;
+    format!(in alloc;
+        "core,1\nhouse,2024-01-01,1,{last}\nmarket,MKT\ninstr,IND,future,{instrument}\nlimit,IND,{limit}\n\
+        scenario,{scenario}\npath,{scenario},IND,{prices}\nposition,IND,{position}\nend\n"
+    )
+}
+
+/// The text of a closing: what is closed on day 1, the loss, the day of the scenario's weight and the line's weight.
+fn closing_text(alloc: Global, scenario: &str, closing: [&str; 4]) -> Result<String, AllocError> {
+    let [amount, loss, day, weight] = closing;
+    let full = full_record(alloc, weight)?;
+    format!(in alloc;
+        "cert,1\ncloses,1\namount,IND,position,1,{amount}\nloss,{loss}\nmargin,{loss}\nweights,1\n\
+        scenario,{scenario},{day},1\n{full}end\n"
+    )
+}
+
+/// The record of the line's weight, none where it is 0.
+fn full_record(alloc: Global, weight: &str) -> Result<String, AllocError> {
+    if weight == "0" {
+        return Ok(String::new(alloc));
+    }
+    format!(in alloc; "full,IND,position,{weight}\n")
+}
+
+fn words_of(alloc: Global, words: &[&str]) -> Result<Vec<String>, AllocError> {
+    let mut all = Vec::new(alloc);
+    for word in words {
+        all.push(String::from_str(alloc, word)?)?;
+    }
+    Ok(all)
+}
+
+/// The status, and all that is written.
+fn answer(
+    alloc: Global,
+    words: &[&str],
+    shelf: &mut MemShelf,
+    mut sink: MemSink,
+) -> Result<(u8, String), Fail> {
+    let words = words_of(alloc, words)?;
+    let status = core_call(alloc, &words, shelf, &mut sink);
+    Ok((status, String::from_utf8(sink.written().to_vec(alloc)?)?))
+}
+
+/// The answer to `margin C` where `C` holds the bytes and the sink has room.
+fn margin(alloc: Global, case: &[u8]) -> Result<(u8, String), Fail> {
+    let mut shelf = MemShelf::make(alloc);
+    shelf.put("C", case)?;
+    let sink = MemSink::make(alloc, 1000, 1000)?;
+    answer(alloc, &["margin", "C"], &mut shelf, sink)
+}
+
+#[test]
+fn closes_all_at_the_loss_of_day_1(rt: HostRuntime) -> Result<(), Fail> {
+    let alloc = rt.alloc();
+    for (stated, closing) in [
+        (GOOD, ["10", "100", "2", "10"]),
+        (
+            ["2", "MKT,1,1,1", "11", "DOWN", "100,90,90", "10"],
+            ["10", "100", "2", "10"],
+        ),
+        (
+            ["2", "MKT,1,1,1", "10", "DOWN", "100,90,90", "9"],
+            ["9", "90", "2", "10"],
+        ),
+        (
+            ["1", "MKT,1,1,0", "10", "DOWN", "100,90", "10"],
+            ["10", "100", "1", "10"],
+        ),
+        (
+            ["2", "MKT,1,1,0", "10", "DOWN", "100,90,90", "10"],
+            ["10", "100", "1", "10"],
+        ),
+        (
+            ["4", "MKT,1,1,3", "10", "DOWN", "100,90,90,0,200", "10"],
+            ["10", "100", "4", "10"],
+        ),
+        (
+            ["2", "MKT,1,1,1", "10", "DOWN", "100,99,200", "10"],
+            ["10", "10", "2", "1"],
+        ),
+        (
+            ["2", "MKT,1,1,1", "10", "DOWN", "-5,-7,0", "10"],
+            ["10", "20", "2", "2"],
+        ),
+        (
+            ["2", "MKT,1,1,1", "10", "UP", "100,110,90", "-10"],
+            ["10", "100", "2", "10"],
+        ),
+        (
+            ["2", "MKT,5,1,1", "10", "DOWN", "100,97,97", "10"],
+            ["10", "150", "2", "15"],
+        ),
+        (
+            ["2", "MKT,5,1,1", "10", "UP", "100,103,90", "-4"],
+            ["4", "60", "2", "15"],
+        ),
+        (
+            ["2", "HOUSE,1,1,1", "10", "DOWN", "100,90,90", "10"],
+            ["10", "100", "2", "10"],
+        ),
+        (
+            [
+                "1",
+                "MKT,1000000,1,0",
+                "1000000000",
+                "MOST",
+                "1000000000000,-1000000000000",
+                "1000000000",
+            ],
+            [
+                "1000000000",
+                "2000000000000000000000000000",
+                "1",
+                "2000000000000000000",
+            ],
+        ),
+        // Nothing is lost.
+        (
+            ["2", "MKT,1,1,1", "10", "UP", "100,110,110", "10"],
+            ["10", "0", "0", "0"],
+        ),
+        (
+            ["2", "MKT,1,1,1", "10", "SAME", "100,100,0", "10"],
+            ["10", "0", "0", "0"],
+        ),
+        (
+            ["2", "MKT,1,1,1", "10", "SAME", "100,100,200", "-10"],
+            ["10", "0", "0", "0"],
+        ),
+        (
+            ["2", "MKT,1,1,1", "10", "UP", "100,101,0", "3"],
+            ["3", "0", "0", "0"],
+        ),
+        (
+            ["2", "MKT,5,1,1", "10", "DOWN", "100,90,200", "-10"],
+            ["10", "0", "0", "0"],
+        ),
+        (
+            ["1", "HOUSE,5,1,0", "10", "UP", "100,110", "7"],
+            ["7", "0", "0", "0"],
+        ),
+    ] {
+        let text = case_text(alloc, stated)?;
+        let want = closing_text(alloc, stated[3], closing)?;
+        let (status, said) = margin(alloc, text.as_bytes())?;
+        assert_eq!(rt; (status, said.as_str()), (0, want.as_str()), "at {text}");
+    }
+    Ok(())
+}
+
+#[test]
+fn refuses_where_the_day_or_the_limit_forbids(rt: HostRuntime) -> Result<(), Fail> {
+    let alloc = rt.alloc();
+    for (stated, want) in [
+        (["1", "MKT,1,1,1", "10", "DOWN", "100,90", "10"], NO_DAY),
+        (["2", "MKT,1,2,1", "10", "DOWN", "100,90,90", "10"], NO_DAY),
+        (["2", "MKT,1,20,0", "10", "DOWN", "100,90,90", "10"], NO_DAY),
+        (["2", "MKT,1,1,2", "10", "DOWN", "100,90,90", "10"], NO_DAY),
+        (
+            ["2", "HOUSE,5,1,10", "10", "UP", "100,110,110", "-10"],
+            NO_DAY,
+        ),
+        (["2", "MKT,1,2,1", "9", "DOWN", "100,90,90", "10"], NO_DAY),
+        (["2", "MKT,1,1,1", "9", "DOWN", "100,90,90", "10"], NO_ROOM),
+        (["2", "MKT,1,1,1", "10", "DOWN", "100,90,90", "11"], NO_ROOM),
+        (["2", "MKT,1,1,1", "9", "DOWN", "100,90,90", "-10"], NO_ROOM),
+        (["2", "MKT,1,1,1", "0", "UP", "100,110,110", "1"], NO_ROOM),
+        (
+            ["1", "HOUSE,5,1,0", "10", "SAME", "100,100", "-1000000000"],
+            NO_ROOM,
+        ),
+    ] {
+        let text = case_text(alloc, stated)?;
+        let (status, said) = margin(alloc, text.as_bytes())?;
+        assert_eq!(rt; (status, said.as_str()), (1, want), "at {text}");
+    }
+    Ok(())
+}
+
+#[test]
+fn names_a_file_that_is_no_case_or_too_long(rt: HostRuntime) -> Result<(), Fail> {
+    let alloc = rt.alloc();
+    let good = case_text(alloc, GOOD)?;
+    let newer = good.replace(alloc, "core,1", "core,2")?;
+    let cut = good.replace(alloc, "end\n", "")?;
+    let longer = good.replace(alloc, "end\n", "end\nend\n")?;
+    let fewer_prices = good.replace(alloc, "100,90,90", "100,90")?;
+    let long = vec![in alloc; b'x'; 4_194_305]?;
+    for (case, want) in [
+        (b"".as_slice(), "bad,case,0,99\n"),
+        (newer.as_bytes(), "bad,case,0,99\n"),
+        (cut.as_bytes(), "bad,case,0,99\n"),
+        (longer.as_bytes(), "bad,case,0,99\n"),
+        (fewer_prices.as_bytes(), "bad,case,0,99\n"),
+        (&long[1..], "bad,case,0,99\n"),
+        (long.as_slice(), "bad,case,0,0\n"),
+    ] {
+        let (status, said) = margin(alloc, case)?;
+        let length = case.len();
+        assert_eq!(rt; (status, said.as_str()), (3, want), "at {length} bytes");
+    }
+    Ok(())
+}
+
+#[test]
+fn tells_the_usage_for_other_words(rt: HostRuntime) -> Result<(), Fail> {
+    let alloc = rt.alloc();
+    let good = case_text(alloc, GOOD)?;
+    let mut shelf = MemShelf::make(alloc);
+    shelf.put("C", good.as_bytes())?;
+    shelf.put("", good.as_bytes())?;
+    for words in OTHER_WORDS {
+        let sink = MemSink::make(alloc, 1000, 1000)?;
+        let (status, said) = answer(alloc, words, &mut shelf, sink)?;
+        assert_eq!(rt; (status, said.as_str()), (2, "usage\n"), "at {words:?}");
+    }
+    Ok(())
+}
+
+#[test]
+fn answers_reads_and_writes_that_fail(rt: HostRuntime) -> Result<(), Fail> {
+    let alloc = rt.alloc();
+    let good = case_text(alloc, GOOD)?;
+    let whole = closing_text(alloc, "DOWN", ["10", "100", "2", "10"])?;
+    let most = whole.len();
+    // The case's name, the read that fails, the sink's room, its bytes a write and the write that fails; 0 is none.
+    for (name, read, room, piece, write, status, want) in [
+        ("C", 0, most, 10, 0, 0, whole.as_str()),
+        ("C", 0, most, 1, 0, 0, whole.as_str()),
+        ("D", 0, 1000, 10, 0, 6, "fault,read,case\n"),
+        ("C", 1, 1000, 10, 0, 6, "fault,read,case\n"),
+        ("C", 2, 1000, 10, 0, 6, "fault,read,case\n"),
+        ("C", 0, 1000, 10, 2, 7, "cert,1\nclo"),
+        ("C", 0, 8, 10, 0, 7, "cert,1\nc"),
+        ("C", 0, 0, 10, 0, 7, ""),
+        ("D", 0, 1000, 10, 2, 7, "fault,read"),
+    ] {
+        let mut shelf = MemShelf::make(alloc);
+        shelf.put("C", good.as_bytes())?;
+        shelf.fail_at(read)?;
+        let mut sink = MemSink::make(alloc, room, piece)?;
+        sink.fail_at(write)?;
+        let said = answer(alloc, &["margin", name], &mut shelf, sink)?;
+        assert_eq!(rt;
+            (said.0, said.1.as_str()),
+            (status, want),
+            "at {name}, {read}, {room}, {piece}, {write}"
+        );
+    }
+    Ok(())
+}
