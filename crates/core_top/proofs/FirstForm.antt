@@ -1,14 +1,14 @@
 -- A case of the first form is of one future, and one text states one case.
-use Rattle.std.proofs.Common.{◌≡◌, refl, sym, ◌∙◌, ap, subst, ℕ, zero, suc, ◌<◌, ◌≤◌, ◌⊎◌, inl, inr, List, [], ◌∷◌, length, get_or, replicate, ℤ, pos, arith, Bool, true, false, cond, ◌||◌, ◌==◌, not, Option, Some, None}
+use Rattle.std.proofs.Common.{◌≡◌, refl, sym, ◌∙◌, ap, subst, ℕ, zero, suc, ◌<◌, ◌≤◌, ◌⊎◌, inl, inr, List, [], ◌∷◌, get_or, replicate, ℤ, pos, arith, Bool, true, false, ◌||◌, ◌==◌, not, Option, Some, None}
 use Rattle.std.proofs.lemmas.Bool.{cases_lt}
 use Rattle.std.proofs.lemmas.List.{get_or-replicate, length-replicate, get_or_past}
 use Rattle.core_sums.specs.Places.{at, row_at, has}
 use Rattle.core_days.specs.Days.{is_open_on}
 use Rattle.core_rows.specs.Names.{Record}
 use Rattle.core_rows.specs.Fields.{records}
-use Rattle.core_case.specs.View.{CaseView, instrument_of, is_open, date}
+use Rattle.core_case.specs.View.{CaseView, date}
 use Rattle.core_case.specs.Kept.{IsCase}
-use Rattle.core_case.specs.FirstForm.{is_first_form, first_form_case, natural_in, are_but_path, is_path}
+use Rattle.core_case.specs.FirstForm.{is_first_form, first_form_case, natural_in}
 use Rattle.core_case.proofs.Sound.{first-true, second-true, first_form-kept}
 use Rattle.core_top.specs.OneFuture.{IsOneFuture}
 use Rattle.core_top.specs.Due.{HasCase}

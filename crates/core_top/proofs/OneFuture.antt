@@ -1,24 +1,15 @@
 -- The cash of a book of one future whose line is closed in full on day 1.
-use Rattle.std.proofs.Common.{◌≡◌, refl, sym, ◌∙◌, ap, ℕ, zero, suc, ◌+◌, ◌-◌, ◌<◌, ◌≤◌, min, length, ℤ, pos, negsuc, neg_ℤ, ◌+ℤ◌, ◌-ℤ◌, ◌*ℤ◌, ◌≤ℤ◌, ◌<ℤ◌, arith, Bool, true, false, cond, if◌then◌else◌}
+use Rattle.std.proofs.Common.{◌≡◌, refl, ◌∙◌, ap, ℕ, zero, suc, ◌-◌, ◌<◌, min, ℤ, pos, ◌-ℤ◌, ◌*ℤ◌, arith, Bool, true, false, cond, if◌then◌else◌}
 use Rattle.std.proofs.lemmas.Int.{ints}
 use Rattle.std.proofs.Math.IntN.{*ℤ-zero}
 use Rattle.core_sums.specs.Sums.{sum_below, sum_days}
-use Rattle.core_sums.proofs.SumLaws.{sum_below-cong, sum_below-zero}
+use Rattle.core_sums.proofs.SumLaws.{sum_below-cong, sum_below-single, sum_below-zero}
 use Rattle.core_days.specs.Days.{open_day_before}
 use Rattle.core_case.specs.View.{CaseView, instrument, line, instrument_of, price, cash, is_open, day_before}
 use Rattle.core_case.specs.declared.parts.Kind.{Kind}
 use Rattle.core_case.specs.declared.parts.Kind.TheVariants.{Future}
 use Rattle.core_top.specs.OneFuture.{IsOneFuture, gain}
-use Rattle.core_model.specs.Closing.{Amounts, line_count, size, still_open, flow_by, flow, is_paid_by, fixed, paid_flows, cash_of}
-
--- a sum whose terms past the first are 0
-sum_below-first : (n : ℕ) (f : ℕ → ℤ) → ((j : ℕ) → f (suc j) ≡ pos 0) → sum_below (suc n) f ≡ f 0
-unfolding sum_below
-sum_below-first zero f none = omega (arith, ints)
-sum_below-first (suc n) f none =
-    let rest : sum_below (suc n) f ≡ f 0 = sum_below-first n f none in
-    let last : f (suc n) ≡ pos 0 = none n in
-    omega (arith, ints, rest, last)
+use Rattle.core_model.specs.Closing.{Amounts, size, still_open, flow_by, flow, is_paid_by, fixed, paid_flows, cash_of}
 
 -- nothing is open after day 1
 still-after : (c : CaseView) (d : ℤ) (a : Amounts) (v : ℕ) → IsOneFuture c → a 0 1 ≡ (line c 0).amount *ℤ d → still_open c d a 0 (suc (suc v)) ≡ pos 0
@@ -74,9 +65,12 @@ either-zero false x e = refl
 paid-first : (c : CaseView) (d : ℤ) (a : Amounts) (t n : ℕ) → IsOneFuture c → a 0 1 ≡ (line c 0).amount *ℤ d
     → sum_days (suc n) (λ v. if is_paid_by c 0 v t then flow c d a 0 0 v else pos 0) ≡ (if is_paid_by c 0 1 t then gain c *ℤ ((line c 0).amount *ℤ d) else pos 0)
 paid-first c d a t n one full =
-    sum_below-first n (λ j. if is_paid_by c 0 (suc j) t then flow c d a 0 0 (suc j) else pos 0)
-    (λ j. either-zero (is_paid_by c 0 (suc (suc j)) t) (flow c d a 0 0 (suc (suc j))) (flow-after c d a 0 j one full))
+    sum_below-single (suc n) 0 (λ j. if is_paid_by c 0 (suc j) t then flow c d a 0 0 (suc j) else pos 0) (omega arith) later
     ∙ ap (λ z. if is_paid_by c 0 1 t then z else pos 0) (flow-first c d a one)
+  where
+    later : (j : ℕ) → j < suc n → (j ≡ 0 → ⊥) → (if is_paid_by c 0 (suc j) t then flow c d a 0 0 (suc j) else pos 0) ≡ pos 0
+    later zero below other = absurd (other refl)
+    later (suc j) below other = either-zero (is_paid_by c 0 (suc (suc j)) t) (flow c d a 0 0 (suc (suc j))) (flow-after c d a 0 j one full)
 
 -- The cash: what the price change of day 1 pays on the whole amount, from its pay day on.
 pub cash-is : (c : CaseView) (d : ℤ) (a : Amounts) (t : ℕ) → IsOneFuture c → a 0 1 ≡ (line c 0).amount *ℤ d

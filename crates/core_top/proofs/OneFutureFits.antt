@@ -1,5 +1,5 @@
 -- The numbers of a book of one future are kept by 64 and 128 bits, and its certificate fits the case.
-use Rattle.std.proofs.Common.{length-set, ◌≡◌, refl, sym, ◌∙◌, ap, subst, ℕ, suc, ◌+◌, ◌-◌, ◌*◌, ◌^◌, ◌<◌, ◌≤◌, ◌⊎◌, inl, inr, List, [], ◌∷◌, length, get_or, replicate, ℤ, pos, negsuc, neg_ℤ, ◌-ℤ◌, ◌*ℤ◌, ◌≤ℤ◌, arith, Bool, true, false, unsigned_abs, int_lt, if◌then◌else◌, slice_set, lit≤, FitsSigned, w64}
+use Rattle.std.proofs.Common.{length-set, ◌≡◌, refl, sym, ◌∙◌, ap, subst, ℕ, suc, ◌*◌, ◌^◌, ◌<◌, ◌≤◌, ◌⊎◌, inl, inr, List, [], ◌∷◌, length, get_or, replicate, ℤ, pos, negsuc, neg_ℤ, ◌-ℤ◌, ◌*ℤ◌, ◌≤ℤ◌, arith, Bool, true, false, unsigned_abs, int_lt, if◌then◌else◌, slice_set, lit≤, FitsSigned, w64}
 use Rattle.std.proofs.lemmas.Int.{ints, unsigned_abs-mul, fits_signed_from_abs}
 use mir.Syntax.{w128}
 use Rattle.std.proofs.lemmas.Bool.{leb-true}
@@ -7,12 +7,11 @@ use Rattle.std.proofs.Math.Nat.{mul-le-mul}
 use Rattle.std.proofs.lemmas.List.{get_or-replicate, length-replicate, get_or-set_same, get_or-set_other}
 use Rattle.std.proofs.lemmas.List.Elements.{All-cons, All-nil}
 use Rattle.std.specs.List.{All}
-use Rattle.core_sums.specs.Places.{at, row_at}
 use Rattle.core_sums.specs.Widths.{most}
-use Rattle.core_case.specs.View.{CaseView, instrument, line, instrument_of, no_line, no_instrument, price, limit}
-use Rattle.core_case.specs.Kept.{IsIn, IsCase, IsLine, IsInstrument}
+use Rattle.core_case.specs.View.{CaseView, instrument, line, instrument_of, no_line, no_instrument, price}
+use Rattle.core_case.specs.Kept.{IsCase, IsLine, IsInstrument}
 use Rattle.core_model.specs.Closing.{size}
-use Rattle.core_model.specs.Fits.{IsKept, AreKept, CalendarFits, WeightsFit, Fits}
+use Rattle.core_model.specs.Fits.{IsKept, AreKept, WeightsFit, Fits}
 use Rattle.core_cert.specs.Written.{IsPlainlyRefusing}
 use Rattle.core_model.specs.declared.cert.Cert.TheVariants.{Cannot}
 use Rattle.core_top.proofs.OneFutureShows.{both-true, nat_cases}

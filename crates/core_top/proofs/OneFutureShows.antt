@@ -1,12 +1,12 @@
 -- The certificate of a book of one future shows what it says.
-use Rattle.std.proofs.Common.{◌≡◌, refl, sym, ◌∙◌, ap, subst, ℕ, zero, suc, ◌+◌, ◌-◌, ◌*◌, ◌<◌, ◌≤◌, List, [], ◌∷◌, length, get_or, replicate, ℤ, pos, negsuc, neg_ℤ, ◌+ℤ◌, ◌-ℤ◌, ◌*ℤ◌, ◌≤ℤ◌, ◌<ℤ◌, ◌⊎◌, inl, inr, arith, Bool, true, false, cond, if◌then◌else◌, nat_le, int_le, int_lt, ◌&&◌, ◌==◌, Option, Some, None, is_some}
+use Rattle.std.proofs.Common.{◌≡◌, refl, sym, ◌∙◌, ap, subst, ℕ, suc, ◌+◌, ◌-◌, ◌*◌, ◌<◌, ◌≤◌, List, [], ◌∷◌, length, ℤ, pos, neg_ℤ, ◌-ℤ◌, ◌*ℤ◌, ◌≤ℤ◌, ◌<ℤ◌, ◌⊎◌, inl, inr, arith, Bool, true, false, cond, if◌then◌else◌, nat_le, int_le, int_lt, ◌&&◌, ◌==◌, Some, None, is_some}
 use Rattle.std.proofs.lemmas.Int.{ints}
 use Rattle.std.proofs.lemmas.Bool.{cases_lt, lt-leb, le-leb, leb-true, eq-eqb, ne_eqb}
 use Rattle.std.proofs.lemmas.List.{length-replicate, get_or-replicate, get_or-set_same, get_or-set_other}
 use Rattle.std.proofs.Math.IntN.{*ℤ-zero, zero-*ℤ, *ℤ_comm}
 use Rattle.core_sums.specs.Sums.{sum_below, sum_days, greatest_to}
 use Rattle.core_sums.specs.Places.{at}
-use Rattle.core_sums.proofs.SumLaws.{sum_below-cong, sum_below-zero, greatest_to-bounds, greatest_to-reached}
+use Rattle.core_sums.proofs.SumLaws.{sum_below-cong, sum_below-single, sum_below-zero, greatest_to-is}
 use Rattle.core_sums.proofs.Ring.{neg-*ℤ, *ℤ-pos_one}
 use Rattle.core_sums.proofs.Order.{sum_below-chosen, times-nonneg}
 use Rattle.core_days.specs.Days.{pay_day}
@@ -15,7 +15,7 @@ use Rattle.core_case.specs.View.{CaseView, instrument, line, instrument_of, memb
 use Rattle.core_case.specs.Kept.{IsCase, IsLine}
 use Rattle.core_case.specs.declared.parts.Side.{Side}
 use Rattle.core_case.specs.declared.parts.Side.TheVariants.{Position, Collateral}
-use Rattle.core_model.specs.Closing.{Amounts, IsClosingDay, closed_of, pooled, IsAdmissible, ClosesLine, is_by, is_paid_by, fixed, cash_of, loss_of, worst_loss, IsLeast, CannotClose}
+use Rattle.core_model.specs.Closing.{Amounts, IsClosingDay, closed_of, IsAdmissible, ClosesLine, is_by, is_paid_by, fixed, cash_of, loss_of, worst_loss}
 use Rattle.core_model.specs.Bounds.{amounts_of, alone, one_on, unit, scenario_weight, limit_weight, pool_weight, pool_charge, full_weight, sum_losses, sum_limits, sum_pools, charge, AreWeights, AreBounding, AreRefusing, bound}
 use Rattle.core_model.specs.Shows.{ShowsLeast, ShowsNone, Shows}
 use Rattle.core_model.specs.declared.cert.Weights.{Weights}
@@ -126,15 +126,6 @@ unit-marked c t one may =
     ∙ ap (λ b. if b then gain c *ℤ pos 1 else pos 0) (paid-is c t one may)
     ∙ ap (λ z. if nat_le (mark_day c) t then z else pos 0) (*ℤ-pos_one (gain c))
 
--- the greatest of some numbers is one that is as great as each of them
-greatest-is : (n : ℕ) (f : ℕ → ℤ) (m : ℤ) (j : ℕ) → j ≤ n → f j ≡ m → ((t : ℕ) → t ≤ n → f t ≤ℤ m) → greatest_to n f ≡ m
-greatest-is n f m j within here above =
-    let low : f j ≤ℤ greatest_to n f = greatest_to-bounds n f j within in
-    let reached = greatest_to-reached n f in
-    let high : f reached.0 ≤ℤ m = above reached.0 reached.1 in
-    let same : f reached.0 ≡ greatest_to n f = reached.2 in
-    omega (arith, ints, low, high, same, here)
-
 -- the losses of the calendar
 loss-marked : (c : CaseView) (t : ℕ) → IsOneFuture c → may_close c ≡ true
     → loss_of c (pos 1) (amounts c) 0 t ≡ (if nat_le (mark_day c) t then neg_ℤ (gain c *ℤ (line c 0).amount) else pos 0)
@@ -150,7 +141,7 @@ unfolding greatest_to
 worst-of-one c loss j one within here above =
     let single : length c.scenarios - 1 ≡ 0 = omega (arith, one.one_scenario) in
     ap (λ n. greatest_to n (λ k. greatest_to c.last (loss_of c (pos 1) (amounts c) k))) single
-    ∙ greatest-is c.last (loss_of c (pos 1) (amounts c) 0) loss j within here above
+    ∙ greatest_to-is c.last (loss_of c (pos 1) (amounts c) 0) loss above j within here
 
 -- a choice of 0 or a number lies between bounds of both
 choice-le : (b : Bool) (x m : ℤ) → x ≤ℤ m → pos 0 ≤ℤ m → (if b then x else pos 0) ≤ℤ m
@@ -177,8 +168,7 @@ worst-gaining c one may gains =
 
 -- the calendar is admissible
 sum-single : (f : ℕ → ℤ) → sum_below 1 f ≡ f 0
-unfolding sum_below
-sum-single f = omega (arith, ints)
+sum-single f = sum_below-single 1 0 f (omega arith) (λ j below other. absurd (other (omega (arith, below))))
 
 day-one : (c : CaseView) (u : ℕ) → IsOneFuture c → IsClosingDay c u → u ≡ 1
 day-one c u one day = omega (arith, one.horizon, day.0, day.1)

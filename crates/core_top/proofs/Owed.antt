@@ -1,5 +1,5 @@
 -- What an answer that is due, or that failed, meets of what the top call owes.
-use Rattle.std.proofs.Common.{◌≡◌, refl, sym, ◌∙◌, ap, subst, ℕ, ◌<◌, ◌≤◌, ◌⊎◌, inl, inr, List, length, arith, Bool, true, false, Option, Some, None, IsSome}
+use Rattle.std.proofs.Common.{◌≡◌, refl, sym, ◌∙◌, ap, subst, ℕ, ◌<◌, ◌≤◌, ◌⊎◌, inl, inr, List, length, arith, true, Option, Some, None, IsSome}
 use Rattle.core_io.specs.Causes.{AppendsPart}
 use Rattle.core_rows.specs.Fields.{records}
 use Rattle.core_case.specs.View.{CaseView}
@@ -10,8 +10,8 @@ use Rattle.core_model.specs.Shows.{Shows}
 use Rattle.core_cert.specs.Written.{cert_text}
 use Rattle.core_top.specs.OneFuture.{one_future_cert}
 use Rattle.core_top.specs.Words.{Command, Margin, case_name, command_of}
-use Rattle.core_top.specs.Due.{HasCase, IsDue, usage, case_fault, case_long, case_bad, margin, HasStatus, cert_status, usage_said, case_fault_said, bad_case_said}
-use Rattle.core_top.specs.Headline.{Around, ShelfRose, SinkRose, Prints, PrintsLeast, PrintsNone, MarginAnswer, least, none, read_fault, write_fault, no_memory, Tells, Answered, unanswered, cut, written, IsExact, IsComplete, MarginOwes, ReadFault, HasCauses}
+use Rattle.core_top.specs.Due.{HasCase, IsDue, usage, case_fault, case_long, case_bad, margin, HasStatus, cert_status}
+use Rattle.core_top.specs.Headline.{Around, ShelfRose, SinkRose, Prints, MarginAnswer, least, none, read_fault, Tells, cut, written, IsExact, IsComplete, MarginOwes, ReadFault, HasCauses}
 use Rattle.core_top.proofs.OneFutureShows.{one_future_shows}
 use Rattle.core_top.proofs.FirstForm.{stated-kept, stated-one, stated-unique}
 

@@ -1,7 +1,7 @@
-use Rattle.std.proofs.Common.{refl, inl, rules}
+use Rattle.std.proofs.Common.{refl}
 use Rattle.core_top.specs.Words.{words_of}
-use Rattle.core_top.specs.Headline.{Around, around, no_memory, write_fault, unanswered}
-use Rattle.core_top.proofs.Owed.{written-margin, written-exact, written-complete, written-causes, cut-exact, cut-causes, unwritten-causes}
+use Rattle.core_top.specs.Headline.{around, no_memory, write_fault, unanswered}
+use Rattle.core_top.proofs.Owed.{written-margin, written-exact, written-complete, cut-exact}
 use Rattle.core_top.proofs.core_call.Goals as goal
 
 pub returns-in-Err-clause-margin : goal.returns-in-Err-clause-margin

@@ -1,4 +1,3 @@
-use Rattle.std.proofs.Common.{rules}
 use Rattle.std.proofs.lemmas.Result.{IfOk-weaker}
 use Rattle.core_io.specs.Causes.{Rose}
 use Rattle.core_top.specs.Words.{command_of, words_of}

@@ -1,4 +1,4 @@
-use Rattle.std.proofs.Common.{◌≡◌, rules, ◌*ℤ◌, sym, subst, ℤ, FitsSigned, w64}
+use Rattle.std.proofs.Common.{◌≡◌, rules, ◌*ℤ◌, FitsSigned, w64}
 use Rattle.std.proofs.lemmas.Int.{to_z-of_z}
 use Rattle.core_model.specs.Closing.{size}
 use Rattle.core_top.proofs.OneFutureFits.{size-fits}
