@@ -1,3 +1,26 @@
+pub mod FiledKeys
+pub mod FiledMore
+pub mod FiledRows
+pub mod Filters
+pub mod FormsDates
+pub mod FormsFirst
+pub mod FormsWalk
+pub mod LinesKept
 mod Lookups
-mod Ranges
-pub mod Sound
+pub mod NamesDeclared
+pub mod NamesKept
+pub mod NamesSound
+pub mod ReadingCase
+pub mod ReadingCount
+pub mod ReadingFaults
+pub mod ReadingRows
+pub mod SoundRecord
+pub mod StateNames
+pub mod StatePlaces
+pub mod StateRows
+pub mod StateWhole
+pub mod StatedCases
+pub mod WholeDays
+pub mod WholeLists
+pub mod WholeOfSound
+pub mod WholeRecords

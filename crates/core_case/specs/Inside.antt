@@ -1,11 +1,15 @@
--- The view of the kept fields.
-use Rattle.std.specs.Prelude.{map}
+-- The view of a book, and what a case keeps beside it.
+use Rattle.std.specs.Prelude.{◌≡◌, ℕ, ℤ, Bool, List, ◌<◌, length, map}
 use Rattle.jiff.specs.Words.{epoch_day}
+use Rattle.core_sums.specs.Places.{row_at}
+use Rattle.core_days.specs.Flags.{AreHouseDays, AreOpenFlags}
 use Rattle.core_case.specs.View.{CaseView}
+use Rattle.core_case.specs.Kept.{IsCase}
+use Rattle.core_case.specs.declared.book.Book.{Book}
 use Rattle.core_case.specs.declared.case.Case.TheInside.{Inside}
 
-abbrev pub case_view : Inside → CaseView
-case_view a = record {
+abbrev pub book_view : Book → CaseView
+book_view a = record {
   start = epoch_day a.start;
   horizon = a.horizon;
   last = a.last;
@@ -20,3 +24,14 @@ case_view a = record {
   lines = a.lines.items;
   cash = a.cash.items;
 }
+
+-- for each market whether it is open on these dates, by market and house day
+pub record AreOpenDays (holidays : List (List ℤ)) (dates : List ℤ) (flags : List (List Bool)) : Type 0 where
+  pub count : length flags ≡ length holidays
+  pub each : (m : ℕ) → m < length holidays → AreOpenFlags (row_at holidays m) dates (row_at flags m)
+
+-- A case keeps the dates of its house days and the open days of its markets beside the book.
+pub record HasDays (a : Inside) : Type 0 where
+  pub kept : IsCase (book_view a.book)
+  pub days : AreHouseDays (book_view a.book).start (row_at (book_view a.book).holidays 0) a.book.last (map epoch_day a.days.items)
+  pub open_days : AreOpenDays (book_view a.book).holidays (map epoch_day a.days.items) (map (λ v. v.items) a.open_days.items)

@@ -1,14 +1,17 @@
-// Fields of a record: words, and numbers and days in a range.
-ghost use Rattle.std.specs.Prelude.{◌≡◌, ◌≤ℤ◌, ◌&&◌, ◌==◌, pos, option_map, IfSome, length};
+// Fields of a record: words, and the numbers and days that they write.
+ghost use Rattle.std.specs.Prelude.{◌≡◌, ◌<◌, ◌^◌, Some};
 ghost use Rattle.std.specs.Str.{bytes_eq};
 ghost use Rattle.jiff.specs.Words.{epoch_day};
-ghost use Rattle.core_case.specs.FirstForm.{field, is_record, number_between, day_between, first_date, last_start};
+ghost use Rattle.core_rows.specs.Fields.{whole, day_of};
+ghost use Rattle.core_case.specs.Kinds.{field, number_in, natural_in};
+ghost use Rattle.core_case.specs.Faults.{first_date, is_between, last_holiday, last_start};
+ghost use Rattle.core_case.specs.Stated.{day_in};
 
 use core_rows::{Fields, day_text, whole};
 use jiff::civil::{Date, date};
 
 /// The field at an index, empty where the record has none.
-pub fn word(row: &Fields, i: usize) -> &[u8]
+pub(crate) fn word(row: &Fields, i: usize) -> &[u8]
     ensures { result.now ≡ field row.now i }
 {
     match row.field(i) {
@@ -18,60 +21,61 @@ pub fn word(row: &Fields, i: usize) -> &[u8]
 }
 
 /// Whether two words are the same.
-pub fn same(word: &[u8], other: &[u8]) -> bool
+pub(crate) fn same(word: &[u8], other: &[u8]) -> bool
     ensures { result ≡ bytes_eq word.now other.now }
 {
     word == other
 }
 
-/// Whether the record is of a kind and has so many fields.
-pub fn is_record(row: &Fields, kind: &[u8], fields: usize) -> bool
-    ensures { result ≡ is_record kind.now fields row.now }
+/// The number in a field, 0 where it writes none.
+pub(crate) fn number_in(row: &Fields, i: usize) -> i64
+    ensures { result ≡ number_in row.now i }
 {
-    same(word(row, 0), kind) && row.len() == fields
+    whole(word(row, i)).unwrap_or(0)
 }
 
-/// The whole number that a word states, where it lies from `low` to `high`.
-pub fn number_between(word: &[u8], low: i64, high: i64) -> Option<i64>
-    ensures value { result ≡ number_between low high word.now }
-    ensures range { IfSome result (λ z. (low ≤ℤ z) × (z ≤ℤ high)) }
+/// The absolute value of the number in a field, 0 where it writes none.
+pub(crate) fn natural_in(row: &Fields, i: usize) -> usize
+    ensures value { result ≡ natural_in row.now i }
+    ensures bound { result < 2 ^ 63 }
 {
-    let number = whole(word)?;
-    if low <= number && number <= high {
-        Some(number)
-    } else {
-        None
+    number_in(row, i).unsigned_abs() as usize
+}
+
+/// The date in a field, 1970-01-01 where it writes none.
+pub(crate) fn day_in(row: &Fields, i: usize) -> Date
+    ensures { epoch_day result ≡ day_in row.now i }
+{
+    match day_text(word(row, i)) {
+        Some(day) => day,
+        None => date(1970, 1, 1),
     }
 }
 
-/// The small number that a word states, where it lies from `low` to `high`.
-pub fn small_between(word: &[u8], low: u8, high: u8) -> Option<u8>
-    ensures { option_map pos result ≡ number_between (pos low) (pos high) word.now }
+/// Whether a date lies from `first` to `last`.
+pub(crate) fn day_is_between(day: Date, first: Date, last: Date) -> bool
+    ensures { result ≡ is_between (epoch_day first) (epoch_day last) (Some (epoch_day day)) }
 {
-    let number = number_between(word, i64::from(low), i64::from(high))?;
-    Some(number as u8)
+    first <= day && day <= last
 }
 
-/// The date that a word states, where it may be the start of a case: of the years 1900 to 2200.
-pub fn start_date(word: &[u8]) -> Option<Date>
-    ensures { option_map epoch_day result ≡ day_between first_date last_start word.now }
-{
-    let day = day_text(word)?;
-    if first_date() <= day && day <= last_start() {
-        Some(day)
-    } else {
-        None
-    }
-}
-
-fn first_date() -> Date
+/// The first date that a case may have.
+pub(crate) fn first_date() -> Date
     ensures { epoch_day result ≡ first_date }
 {
     date(1900, 1, 1)
 }
 
-fn last_start() -> Date
+/// The last date that a case may start on.
+pub(crate) fn last_start() -> Date
     ensures { epoch_day result ≡ last_start }
 {
     date(2200, 12, 31)
+}
+
+/// The last date that a holiday may have.
+pub(crate) fn last_holiday() -> Date
+    ensures { epoch_day result ≡ last_holiday }
+{
+    date(2210, 12, 31)
 }

@@ -1,5 +1,6 @@
 use super::{Case, CaseFault, Kind, Side, read_case};
 use jiff::civil::{Date, date};
+use std::alloc::Global;
 use std::process::Abort;
 use std::test::Fail;
 
@@ -38,8 +39,8 @@ const LONG: &str =
     position,IND,10\nend\n";
 
 fn check_frame(rt: &impl Abort, case: &Case, stated: &Stated) {
-    assert_eq!(rt; case.start, stated.start);
-    assert_eq!(rt; case.markets.as_slice(), [stated.market].as_slice());
+    assert_eq!(rt; case.date(0), stated.start);
+    assert_eq!(rt; case.book.markets.as_slice(), [stated.market].as_slice());
     assert_eq!(rt; (case.horizon(), case.pools(), case.members()), (1, 0, 0));
 }
 
@@ -134,50 +135,194 @@ fn reads_what_the_text_states(rt: HostRuntime) -> Result<(), Fail> {
     Ok(())
 }
 
+/// Ten markets and no more of a case.
+const MANY: &str =
+    "core,1\nhouse,2024-01-01,1,2\nmarket,MKT\nmarket,M1\nmarket,M2\nmarket,M3\nmarket,M4\n\
+    market,M5\nmarket,M6\nmarket,M7\nmarket,M8\nend\n";
+
+fn check_bad(rt: &impl Abort, alloc: Global, text: &str, row: u32, code: u8) {
+    assert!(rt; text.len() <= 4_194_304);
+    let found = match read_case(alloc, text.as_bytes()) {
+        Ok(_) => (0, 0),
+        Err(CaseFault::NoMemory) => (0, 1),
+        Err(CaseFault::Bad { row, code }) => (row, code),
+    };
+    assert_eq!(rt; found, (row, code), "of {text}");
+}
+
 #[test]
-fn refuses_what_is_of_no_such_form(rt: HostRuntime) -> Result<(), Fail> {
-    // The text, or what stands in it and what is put there
-    for (text, old, new) in [
-        ("", "", ""),
-        (LONG, "", ""),
-        (TEXT, "core,1", "core,2"),
-        (TEXT, "market,MKT\n", ""),
-        (TEXT, "end\n", ""),
-        (TEXT, "end\n", "end\nend\n"),
-        (TEXT, "01-01,1,2", "01-01,2,2"),
-        (TEXT, "01-01,1,2", "01-01,1,0"),
-        (TEXT, "2024-01-01", "1899-12-31"),
-        (TEXT, "2024-01-01", "2201-01-01"),
-        (TEXT, "2024-01-01", "2024-02-30"),
-        (TEXT, "MKT", "HOUSE"),
-        (TEXT, "MKT,1,1,1", "OTHER,1,1,1"),
-        (TEXT, "MKT,1,1,1", "MKT,0,1,1"),
-        (TEXT, "MKT,1,1,1", "MKT,1000001,1,1"),
-        (TEXT, "MKT,1,1,1", "MKT,1,0,1"),
-        (TEXT, "MKT,1,1,1", "MKT,1,21,1"),
-        (TEXT, "MKT,1,1,1", "MKT,1,1,11"),
-        (TEXT, "future", "security"),
-        (TEXT, "IND", "Ind"),
-        (TEXT, "DOWN", "down"),
-        (TEXT, "limit,IND,10", "limit,IND,-1"),
-        (TEXT, "limit,IND,10", "limit,IND,1000000001"),
-        (TEXT, "limit,IND", "limit,OTHER"),
-        (TEXT, "path,DOWN", "path,UP"),
-        (TEXT, "100,90,90", "100,90"),
-        (TEXT, "100,90,90", "100,90,1000000000001"),
-        (TEXT, "100,90,90", "100,90,-1000000000001"),
-        (TEXT, "position,IND", "position,OTHER"),
-        (TEXT, "position,IND,10", "position,IND,0"),
-        (TEXT, "position,IND,10", "position,IND,1000000001"),
-        (TEXT, "position,IND,10", "position,IND,-1000000001"),
+fn the_first_fault_is_answered(rt: HostRuntime) -> Result<(), Fail> {
+    check_bad(&rt, rt.alloc(), "", 1, 1);
+    check_bad(&rt, rt.alloc(), MANY, 11, 13);
+    for (old, new, row, code) in [
+        ("core,1\n", "core,7\n", 1, 2),
+        ("core,1\n", "core\n", 1, 5),
+        ("house,2024-01-01,1,2\n", "", 2, 4),
+        ("2024-01-01", "2024-02-30", 2, 8),
+        ("2024-01-01", "1899-12-31", 2, 10),
+        ("market,MKT", "colour,1", 3, 3),
+        ("future", "option", 4, 9),
+        ("limit,IND,10\n", "", 8, 15),
+        ("100,90,90", "100,90", 7, 5),
+        (
+            "path,DOWN,IND,100,90,90\n",
+            "path,DOWN,IND,100,90,90\npath,DOWN,IND,100,90,90\n",
+            8,
+            12,
+        ),
+        ("position,IND,10", "position,IND", 8, 5),
+        ("position,IND,10", "position,ind,10", 8, 6),
+        ("position,IND,10", "position,IND,1.5", 8, 7),
+        ("position,IND,10", "position,IND,0", 8, 10),
+        ("position,IND,10", "position,ABC,10", 8, 11),
+        ("position,IND,10", "collateral,IND,5", 8, 14),
+        ("end\n", "", 9, 17),
+        ("end\n", "end\ncash,0,1\n", 10, 16),
     ] {
-        let changed = text.replace(rt.alloc(), old, new)?;
-        assert!(rt; changed.len() <= 4_194_304);
-        let refused = matches!(
-            read_case(rt.alloc(), changed.as_bytes()),
-            Err(CaseFault::Bad { row: 0, code: 99 })
-        );
-        assert!(rt; refused, "with {new} for {old}");
+        let changed = TEXT.replace(rt.alloc(), old, new)?;
+        check_bad(&rt, rt.alloc(), changed.as_str(), row, code);
+    }
+    Ok(())
+}
+
+/// A book of five instruments in two markets, of which one has a holiday.
+const BOOK: &str = "core,1\nhouse,2024-04-29,5,7\nmarket,BR\nmarket,US\nholiday,BR,2024-05-01\n\
+    instr,IDX1,future,BR,1,1,1\ninstr,IDX2,future,US,5,1,1\ninstr,RATE,future,BR,10,1,1\n\
+    instr,SHARE,security,BR,1,1,2\ninstr,BOND,security,BR,1,2,1\nlimit,IDX1,100,100,100,100,100\n\
+    limit,IDX2,20,20,20,20,20\nlimit,RATE,50,50,50,50,50\nlimit,SHARE,200,200,200,200,200\n\
+    limit,BOND,30,30,30,30,30\npool,EQ,250\nmember,EQ,IDX1,1\nmember,EQ,SHARE,1\nscenario,CRASH\n\
+    path,CRASH,IDX1,1200,1150,1150,1100,1080,1070,1070,1070\n\
+    path,CRASH,IDX2,500,490,485,480,478,476,476,476\npath,CRASH,RATE,90,91,91,92,93,94,94,94\n\
+    path,CRASH,SHARE,30,28,28,26,25,24,24,24\npath,CRASH,BOND,100,99,99,98,97,96,96,96\nscenario,RALLY\n\
+    path,RALLY,IDX1,1200,1220,1220,1240,1250,1260,1260,1260\n\
+    path,RALLY,IDX2,500,510,515,520,525,530,530,530\npath,RALLY,RATE,90,89,89,88,88,87,87,87\n\
+    path,RALLY,SHARE,30,31,31,32,32,33,33,33\npath,RALLY,BOND,100,100,100,100,100,100,100,100\n\
+    scenario,TWIST\npath,TWIST,IDX1,1200,1180,1180,1170,1160,1150,1150,1150\n\
+    path,TWIST,IDX2,500,505,510,515,515,515,515,515\npath,TWIST,RATE,90,92,92,93,93,93,93,93\n\
+    path,TWIST,SHARE,30,29,29,28,28,27,27,27\npath,TWIST,BOND,100,98,98,97,96,95,95,95\nscenario,FLAT\n\
+    path,FLAT,IDX1,1200,1200,1200,1200,1200,1200,1200,1200\n\
+    path,FLAT,IDX2,500,500,500,500,500,500,500,500\npath,FLAT,RATE,90,90,90,90,90,90,90,90\n\
+    path,FLAT,SHARE,30,30,30,30,30,30,30,30\npath,FLAT,BOND,100,100,100,100,100,100,100,100\n\
+    position,IDX1,300\nposition,IDX2,-40\nposition,RATE,-100\nposition,SHARE,400\ncollateral,BOND,50\n\
+    cash,0,1000\ncash,7,-8000\nend\n";
+
+/// On which of the house days 0 to 7 something is paid, by the day on which it happens; 9 is none.
+fn pay_days(case: &Case, i: usize) -> [u8; 8] {
+    let mut days = [9; 8];
+    if i < case.instruments() {
+        for v in 0..8u8 {
+            if v <= case.last() {
+                days[v as usize] = case.pays(i, v).unwrap_or(9);
+            }
+        }
+    }
+    days
+}
+
+/// On which of the days 0 to 7 a line may be closed.
+fn allowed_days(case: &Case, l: usize) -> [bool; 8] {
+    let mut days = [false; 8];
+    if l < case.lines() {
+        for u in 0..8u8 {
+            if u <= case.last() {
+                days[u as usize] = case.allowed(l, u);
+            }
+        }
+    }
+    days
+}
+
+fn check_calendar(rt: &impl Abort, case: &Case) {
+    assert!(rt; case.last() == 7);
+    assert_eq!(rt;
+        (case.date(0), case.date(2)),
+        (date(2024, 4, 29), date(2024, 5, 1))
+    );
+    assert_eq!(rt;
+        (case.date(5), case.date(7)),
+        (date(2024, 5, 6), date(2024, 5, 8))
+    );
+    assert_eq!(rt; pay_days(case, 0), [1, 3, 9, 4, 5, 6, 7, 9]);
+    assert_eq!(rt; pay_days(case, 1), [1, 2, 3, 4, 5, 6, 7, 9]);
+    assert_eq!(rt; pay_days(case, 3), [3, 4, 9, 5, 6, 7, 9, 9]);
+}
+
+fn check_open_days(rt: &impl Abort, case: &Case) {
+    assert!(rt; case.last() == 7);
+    assert!(rt; case.instruments() == 5);
+    assert!(rt; !case.is_open(0, 2));
+    assert!(rt; case.is_open(1, 2));
+    assert!(rt; case.is_open(4, 0));
+    assert!(rt; case.is_open(4, 3));
+}
+
+fn check_closings(rt: &impl Abort, case: &Case) {
+    let (no, yes) = (false, true);
+    assert_eq!(rt; allowed_days(case, 0), [no, yes, no, yes, yes, yes, no, no]);
+    assert_eq!(rt;
+        allowed_days(case, 1),
+        [no, yes, yes, yes, yes, yes, no, no]
+    );
+    assert_eq!(rt; allowed_days(case, 3), [no, yes, no, yes, yes, yes, no, no]);
+    assert_eq!(rt; allowed_days(case, 4), [no, no, no, yes, yes, yes, no, no]);
+}
+
+fn check_book_lines(rt: &impl Abort, case: &Case) {
+    assert_eq!(rt; case.lines(), 5);
+    let short = case.line(1);
+    let bond = case.line(4);
+    assert_eq!(rt;
+        (short.instrument, short.side, short.sign, short.amount),
+        (1, Side::Position, -1, 40)
+    );
+    assert_eq!(rt;
+        (bond.instrument, bond.side, bond.sign, bond.amount),
+        (4, Side::Collateral, 1, 50)
+    );
+}
+
+fn check_pools(rt: &impl Abort, case: &Case) {
+    assert_eq!(rt; (case.pools(), case.members()), (1, 2));
+    let pool = case.pool(0);
+    assert_eq!(rt; (pool.name.bytes(), pool.cap), (b"EQ".as_slice(), 250));
+    let member = case.member(1);
+    assert_eq!(rt; (member.pool, member.instrument, member.weight), (0, 3, 1));
+}
+
+fn check_prices(rt: &impl Abort, case: &Case) {
+    assert!(rt; case.scenarios() == 4 && case.instruments() == 5 && case.last() == 7);
+    assert_eq!(rt; case.scenario(2).bytes(), b"TWIST".as_slice());
+    assert_eq!(rt;
+        (
+            case.price(0, 0, 7),
+            case.price(2, 2, 1),
+            case.price(3, 4, 0)
+        ),
+        (1070, 92, 100)
+    );
+    assert_eq!(rt;
+        (case.cash(0), case.cash(1), case.cash(7)),
+        (1000, 0, -8000)
+    );
+    assert!(rt; case.horizon() == 5);
+    assert_eq!(rt; (case.limit(1, 1), case.limit(4, 5)), (20, 30));
+}
+
+#[test]
+fn reads_a_book_of_many_records(rt: HostRuntime) -> Result<(), Fail> {
+    assert!(rt; BOOK.len() <= 4_194_304);
+    match read_case(rt.alloc(), BOOK.as_bytes()) {
+        Ok(case) => {
+            check_calendar(&rt, &case);
+            check_open_days(&rt, &case);
+            check_closings(&rt, &case);
+            check_book_lines(&rt, &case);
+            check_pools(&rt, &case);
+            check_prices(&rt, &case);
+            let security = case.instruments() == 5 && case.instrument(3).kind == Kind::Security;
+            assert!(rt; security && case.markets() == 3 && case.has_holidays() && case.has_cash());
+        }
+        Err(fault) => assert!(rt; false, "{fault:?}"),
     }
     Ok(())
 }

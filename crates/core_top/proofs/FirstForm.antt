@@ -1,17 +1,39 @@
--- A case of the first form is of one future, and one text states one case.
-use Rattle.std.proofs.Common.{◌≡◌, refl, sym, ◌∙◌, ap, subst, ℕ, zero, suc, ◌<◌, ◌≤◌, ◌⊎◌, inl, inr, List, [], ◌∷◌, get_or, replicate, ℤ, pos, arith, Bool, true, false, ◌||◌, ◌==◌, not, Option, Some, None}
-use Rattle.std.proofs.lemmas.Bool.{cases_lt}
-use Rattle.std.proofs.lemmas.List.{get_or-replicate, length-replicate, get_or_past}
+-- A case that passes the test is a book of one future, and one text states one case.
+use Rattle.std.proofs.Common.{◌≡◌, refl, sym, ◌∙◌, ap, ℕ, zero, suc, List, [], ◌∷◌, length, get_or, ℤ, pos, arith, Bool, true, false, ◌&&◌, ◌||◌, ◌==◌, not, Option, Some, None, Result, Ok, Err}
+use Rattle.std.proofs.lemmas.Bool.{eqb-true}
+use Rattle.std.proofs.lemmas.Bool.Decides.{Decides-int_eq}
+use Rattle.std.proofs.lemmas.List.Elements.{All-head}
+use Rattle.std.specs.List.{All, list_any}
+use Rattle.std.specs.Ordering.{int_eq}
 use Rattle.core_sums.specs.Places.{at, row_at, has}
 use Rattle.core_days.specs.Days.{is_open_on}
-use Rattle.core_rows.specs.Names.{Record}
-use Rattle.core_rows.specs.Fields.{records}
-use Rattle.core_case.specs.View.{CaseView, date}
-use Rattle.core_case.specs.Kept.{IsCase}
-use Rattle.core_case.specs.FirstForm.{is_first_form, first_form_case, natural_in}
-use Rattle.core_case.proofs.Sound.{first-true, second-true, first_form-kept}
-use Rattle.core_top.specs.OneFuture.{IsOneFuture}
+use Rattle.core_case.specs.View.{CaseView, date, instrument_of, has_holidays, has_cash}
+use Rattle.core_case.specs.Kept.{IsCase, IsMember}
+use Rattle.core_case.specs.declared.parts.Member.{Member}
+use Rattle.core_case.specs.Stated.{case_of_bytes}
+use Rattle.core_case.specs.declared.parts.Kind.{Kind}
+use Rattle.core_case.specs.declared.parts.Kind.TheVariants.{Future, Security}
+use Rattle.core_case.specs.declared.parts.Side.{Side}
+use Rattle.core_case.specs.declared.parts.Side.TheVariants.{Position, Collateral}
+use Rattle.core_top.specs.OneFuture.{IsOneFuture, is_future, is_position, is_one_position, is_one_future}
 use Rattle.core_top.specs.Due.{HasCase}
+
+-- both parts of a test that passed
+first-true : (a b : Bool) → a && b ≡ true → a ≡ true
+first-true true b e = refl
+first-true false b e = absurd (cc)
+
+second-true : (a b : Bool) → a && b ≡ true → b ≡ true
+second-true true b e = e
+second-true false b e = absurd (cc)
+
+not-false : (b : Bool) → not b ≡ false → b ≡ true
+not-false true e = refl
+not-false false e = absurd (cc)
+
+not-true : (b : Bool) → not b ≡ true → b ≡ false
+not-true true e = absurd (cc)
+not-true false e = refl
 
 -- a market without a holiday is open on every day
 always-open : (holidays : List ℤ) (t : ℕ) (day : ℤ) → holidays ≡ [] → is_open_on holidays t day ≡ true
@@ -22,47 +44,86 @@ always-open holidays t day none = ap (λ hs. (t == 0) || not (has hs day)) none 
     either true = refl
     either false = refl
 
-no-holiday : (m : ℕ) → let none : List (List ℤ) = [] ∷ [] ∷ [] in row_at none m ≡ []
-no-holiday zero = refl
-no-holiday (suc zero) = refl
-no-holiday (suc (suc m)) = refl
+-- where no list has an element, each is empty
+empty-list : (xs : List ℤ) → not (length xs == 0) ≡ false → xs ≡ []
+empty-list [] e = refl
+empty-list (x ∷ xs) e = absurd (omega (arith, eqb-true (length (x ∷ xs)) 0 (not-false _ e)))
 
-zero-at : (n t : ℕ) → at (replicate n (pos 0)) t ≡ pos 0
-zero-at n t = split (cases_lt t n)
+each-empty : (hs : List (List ℤ)) (m : ℕ) → list_any (λ xs. not (length xs == 0)) hs ≡ false → row_at hs m ≡ []
+each-empty [] m e = refl
+each-empty (xs ∷ hs) zero e = empty-list xs (first-false (not (length xs == 0)) _ e)
   where
-    split : (t < n) ⊎ (n ≤ t) → at (replicate n (pos 0)) t ≡ pos 0
-    split (inl below) = get_or-replicate n t (pos 0) (pos 0) below
-    split (inr past) = get_or_past (replicate n (pos 0)) t (pos 0) (rw (length-replicate n (pos 0)) past)
+    first-false : (a b : Bool) → a || b ≡ false → a ≡ false
+    first-false true b e = e
+    first-false false b e = refl
+each-empty (xs ∷ hs) (suc m) e = each-empty hs m (second-false (not (length xs == 0)) _ e)
+  where
+    second-false : (a b : Bool) → a || b ≡ false → b ≡ false
+    second-false true b e = absurd (cc)
+    second-false false b e = e
 
-pub first_form-kept_by : (rs : List Record) → is_first_form rs ≡ true → IsCase (first_form_case rs)
-first_form-kept_by rs form = first_form-kept rs (second-true _ _ (first-true _ _ form)) (second-true _ _ form)
+-- where no number differs from 0, each is 0
+is-zero : (z : ℤ) → not (int_eq z (pos 0)) ≡ false → z ≡ pos 0
+is-zero z e = (Decides-int_eq z (pos 0)).0 (not-false _ e)
 
-pub first_form-one : (rs : List Record) → is_first_form rs ≡ true → IsOneFuture (first_form_case rs)
-first_form-one rs form =
-    let kept : IsCase (first_form_case rs) = first_form-kept_by rs form in
+each-zero : (xs : List ℤ) (t : ℕ) → list_any (λ n. not (int_eq n (pos 0))) xs ≡ false → at xs t ≡ pos 0
+each-zero [] t e = refl
+each-zero (x ∷ xs) zero e = is-zero x (first-false (not (int_eq x (pos 0))) _ e)
+  where
+    first-false : (a b : Bool) → a || b ≡ false → a ≡ false
+    first-false true b e = e
+    first-false false b e = refl
+each-zero (x ∷ xs) (suc t) e = each-zero xs t (second-false (not (int_eq x (pos 0))) _ e)
+  where
+    second-false : (a b : Bool) → a || b ≡ false → b ≡ false
+    second-false true b e = absurd (cc)
+    second-false false b e = e
+
+a-future : (kind : Kind) → is_future kind ≡ true → kind ≡ Future
+a-future Future e = refl
+a-future Security e = absurd (cc)
+
+a-position : (side : Side) → is_position side ≡ true → side ≡ Position
+a-position Position e = refl
+a-position Collateral e = absurd (cc)
+
+-- without a pool there is no member
+no-members : (c : CaseView) → IsCase c → length c.pools ≡ 0 → length c.members ≡ 0
+no-members c kept none = by_list c.members kept.members.0
+  where
+    by_list : (ms : List Member) → All (IsMember c) ms → length ms ≡ 0
+    by_list [] all = refl
+    by_list (m ∷ ms) all = absurd (omega (arith, (All-head (IsMember c) m ms all).pool, none))
+
+pub one-future : (c : CaseView) → IsCase c → is_one_future c ≡ true → IsOneFuture c
+one-future c kept e =
+    let one_position : is_one_position c ≡ true = second-true _ _ e in
+    let to_cash = first-true _ _ e in
+    let to_pools = first-true _ _ to_cash in
+    let to_scenarios = first-true _ _ to_pools in
+    let to_holidays = first-true _ _ to_scenarios in
+    let to_markets = first-true _ _ to_holidays in
+    let no_holidays : has_holidays c ≡ false = not-true _ (second-true _ _ to_holidays) in
+    let no_cash : has_cash c ≡ false = not-true _ (second-true _ _ to_cash) in
+    let no_pool : length c.pools ≡ 0 = eqb-true (length c.pools) 0 (second-true _ _ to_pools) in
+    let to_kind = first-true _ _ one_position in
+    let to_lines = first-true _ _ to_kind in
     record {
-      horizon = refl;
-      days = omega (arith, kept.last.0);
-      one_instrument = refl;
-      one_line = refl;
-      one_scenario = refl;
-      future = refl;
-      position = refl;
-      opens = λ v. always-open (row_at (first_form_case rs).holidays (get_or (first_form_case rs).markets 0 0)) v (date (first_form_case rs) v) (no-holiday (get_or (first_form_case rs).markets 0 0));
-      no_pool = refl;
-      no_member = refl;
-      no_cash = λ t. zero-at (suc (natural_in (row_at rs 1) 3)) t;
+      horizon = eqb-true c.horizon 1 (first-true _ _ to_markets);
+      days = omega (arith, kept.last.0, kept.horizon.0);
+      one_instrument = eqb-true (length c.instruments) 1 (first-true _ _ to_lines);
+      one_line = eqb-true (length c.lines) 1 (second-true _ _ to_lines);
+      one_scenario = eqb-true (length c.scenarios) 1 (second-true _ _ to_scenarios);
+      future = a-future _ (second-true _ _ to_kind);
+      position = a-position _ (second-true _ _ one_position);
+      opens = λ v. always-open (row_at c.holidays (get_or c.markets (instrument_of c 0) 0)) v (date c v) (each-empty c.holidays (get_or c.markets (instrument_of c 0) 0) no_holidays);
+      no_pool = no_pool;
+      no_member = no-members c kept no_pool;
+      no_cash = λ t. each-zero c.cash t no_cash;
     }
-
--- what a text states is sound and of one future
-pub stated-kept : (told : List ℕ → Option (List ℕ)) (name : List ℕ) (c : CaseView) → HasCase told name c → IsCase c
-stated-kept told name c has = subst (λ (x : CaseView). IsCase x) (sym has.states) (first_form-kept_by (records has.bytes) has.form)
-
-pub stated-one : (told : List ℕ → Option (List ℕ)) (name : List ℕ) (c : CaseView) → HasCase told name c → IsOneFuture c
-stated-one told name c has = subst (λ (x : CaseView). IsOneFuture x) (sym has.states) (first_form-one (records has.bytes) has.form)
 
 -- one shelf tells one case under a name
 pub stated-unique : (told : List ℕ → Option (List ℕ)) (name : List ℕ) (c c' : CaseView) → HasCase told name c → HasCase told name c' → c ≡ c'
 stated-unique told name c c' has has' =
     let same : has.bytes ≡ has'.bytes = ap (λ (o : Option (List ℕ)). elim o [ Some bytes ↦ bytes | None ↦ [] ]) (sym has.told_as ∙ has'.told_as) in
-    has.states ∙ ap (λ bytes. first_form_case (records bytes)) same ∙ sym has'.states
+    ap (λ (r : Result CaseView (ℕ × ℕ)). elim r [ Ok x ↦ x | Err f ↦ c ]) (sym has.states ∙ ap case_of_bytes same ∙ has'.states)

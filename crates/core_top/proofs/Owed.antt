@@ -1,19 +1,19 @@
 -- What an answer that is due, or that failed, meets of what the top call owes.
-use Rattle.std.proofs.Common.{◌≡◌, refl, sym, ◌∙◌, ap, subst, ℕ, ◌<◌, ◌≤◌, ◌⊎◌, inl, inr, List, length, arith, true, Option, Some, None, IsSome}
+use Rattle.std.proofs.Common.{◌≡◌, refl, sym, ◌∙◌, ap, subst, ℕ, ◌<◌, ◌≤◌, ◌⊎◌, inl, inr, List, length, arith, true, Option, Some, None, IsSome, Ok, Err}
 use Rattle.core_io.specs.Causes.{AppendsPart}
-use Rattle.core_rows.specs.Fields.{records}
 use Rattle.core_case.specs.View.{CaseView}
-use Rattle.core_case.specs.FirstForm.{is_first_form}
+use Rattle.core_case.specs.Stated.{case_of_bytes}
 use Rattle.core_model.specs.declared.cert.Cert.{Cert}
 use Rattle.core_model.specs.declared.cert.Cert.TheVariants.{Closes, Cannot}
 use Rattle.core_model.specs.Shows.{Shows}
 use Rattle.core_cert.specs.Written.{cert_text}
-use Rattle.core_top.specs.OneFuture.{one_future_cert}
+use Rattle.core_top.specs.OneFuture.{is_one_future, one_future_cert}
 use Rattle.core_top.specs.Words.{Command, Margin, case_name, command_of}
-use Rattle.core_top.specs.Due.{HasCase, IsDue, usage, case_fault, case_long, case_bad, margin, HasStatus, cert_status}
+use Rattle.core_top.specs.Due.{HasCase, IsDue, usage, case_fault, case_long, case_bad, case_later, margin, HasStatus, cert_status}
 use Rattle.core_top.specs.Headline.{Around, ShelfRose, SinkRose, Prints, MarginAnswer, least, none, read_fault, Tells, cut, written, IsExact, IsComplete, MarginOwes, ReadFault, HasCauses}
 use Rattle.core_top.proofs.OneFutureShows.{one_future_shows}
-use Rattle.core_top.proofs.FirstForm.{stated-kept, stated-one, stated-unique}
+use Rattle.core_case.proofs.StatedCases.{stated-whole}
+use Rattle.core_top.proofs.FirstForm.{one-future, stated-unique}
 
 -- a shelf that tells a case tells the bytes of its name
 tells-case : (told : List ℕ → Option (List ℕ)) (name : List ℕ) (c : CaseView) (command : Option Command) → command ≡ Some (Margin name) → HasCase told name c → Tells told command
@@ -35,18 +35,23 @@ abbrev Outcome : (List ℕ → Type 0) → List ℕ → CaseView → ℕ → Lis
 Outcome rose name c status text = ((status ≡ 6) × rose name) ⊎ ((status ≡ cert_status (one_future_cert c)) × (text ≡ cert_text c (one_future_cert c)))
 
 margin-outcome : (told : List ℕ → Option (List ℕ)) (rose : List ℕ → Type 0) (name : List ℕ) (c : CaseView) (command : Option Command) (status : ℕ) (text : List ℕ)
-    → command ≡ Some (Margin name) → HasCase told name c → IsDue told rose command status text → Outcome rose name c status text
-margin-outcome told rose name c command status text e has usage = absurd (cc)
-margin-outcome told rose name c command status text e has (case_fault command' risen) =
+    → command ≡ Some (Margin name) → HasCase told name c → is_one_future c ≡ true → IsDue told rose command status text → Outcome rose name c status text
+margin-outcome told rose name c command status text e has one usage = absurd (cc)
+margin-outcome told rose name c command status text e has one (case_fault command' risen) =
     inl (refl, subst rose (name-of-command command' name e) risen)
-margin-outcome told rose name c command status text e has (case_long command' bytes here long) =
+margin-outcome told rose name c command status text e has one (case_long command' bytes here long) =
     let same : bytes ≡ has.bytes = same-bytes told name (case_name command') bytes has.bytes (name-of-command command' name e) here has.told_as in
     absurd (omega (arith, ap length same, long, has.fits))
-margin-outcome told rose name c command status text e has (case_bad command' bytes here short form) =
+margin-outcome told rose name c command status text e has one (case_bad command' bytes row code here short bad) =
     let same : bytes ≡ has.bytes = same-bytes told name (case_name command') bytes has.bytes (name-of-command command' name e) here has.told_as in
-    let other : is_first_form (records bytes) ≡ true = ap (λ x. is_first_form (records x)) same ∙ has.form in
+    let both : Err (row, code) ≡ Ok c = sym bad ∙ ap case_of_bytes same ∙ has.states in
     absurd (cc)
-margin-outcome told rose name c command status text e has (margin name' c' has') =
+margin-outcome told rose name c command status text e has one (case_later command' c' has' other) =
+    let moved : HasCase told name c' = subst (λ (x : List ℕ). HasCase told x c') (name-of-command command' name e) has' in
+    let same : c' ≡ c = stated-unique told name c' c moved has in
+    let both : is_one_future c' ≡ true = ap is_one_future same ∙ one in
+    absurd (cc)
+margin-outcome told rose name c command status text e has one (margin name' c' has' one') =
     let moved : HasCase told name c' = subst (λ (x : List ℕ). HasCase told x c') (name-of-command (Margin name') name e) has' in
     let same : c' ≡ c = stated-unique told name c' c moved has in
     inr (ap (λ x. cert_status (one_future_cert x)) same, ap (λ x. cert_text x (one_future_cert x)) same)
@@ -59,13 +64,13 @@ cert-answer a name c (Cannot weights) shows prints = none (record { weights = we
 -- where the whole text was written
 pub written-margin : (a : Around) (words : List (List ℕ)) (status : ℕ) (text : List ℕ) → (Tells a.told (command_of words) → IsDue a.told (ShelfRose a) (command_of words) status text) → Prints a text
     → MarginOwes a words status
-written-margin a words status text due prints name c e has =
-    by_outcome (margin-outcome a.told (ShelfRose a) name c (command_of words) status text e has (due (tells-case a.told name c (command_of words) e has)))
+written-margin a words status text due prints name c e has one =
+    by_outcome (margin-outcome a.told (ShelfRose a) name c (command_of words) status text e has one (due (tells-case a.told name c (command_of words) e has)))
   where
     by_outcome : Outcome (ShelfRose a) name c status text → MarginAnswer a name c status
     by_outcome (inl fault) = rw fault.0 (read_fault fault.1)
     by_outcome (inr found) =
-        rw found.0 (cert-answer a name c (one_future_cert c) (one_future_shows c (stated-kept a.told name c has) (stated-one a.told name c has)) (subst (Prints a) found.1 prints))
+        rw found.0 (cert-answer a name c (one_future_cert c) (one_future_shows c (stated-whole has.bytes c has.states) (one-future c (stated-whole has.bytes c has.states) one)) (subst (Prints a) found.1 prints))
 
 pub written-exact : (a : Around) (words : List (List ℕ)) (status : ℕ) (text : List ℕ) → (Tells a.told (command_of words) → IsDue a.told (ShelfRose a) (command_of words) status text) → Prints a text
     → IsExact a words status
@@ -73,8 +78,8 @@ written-exact a words status text due prints tells = written status text (due te
 
 pub written-complete : (a : Around) (words : List (List ℕ)) (status : ℕ) (text : List ℕ) → (Tells a.told (command_of words) → IsDue a.told (ShelfRose a) (command_of words) status text) → Prints a text
     → IsComplete a words status
-written-complete a words status text due prints name c e has calm steady =
-    by_outcome (margin-outcome a.told (ShelfRose a) name c (command_of words) status text e has (due (tells-case a.told name c (command_of words) e has)))
+written-complete a words status text due prints name c e has one calm steady =
+    by_outcome (margin-outcome a.told (ShelfRose a) name c (command_of words) status text e has one (due (tells-case a.told name c (command_of words) e has)))
   where
     by_outcome : Outcome (ShelfRose a) name c status text → (status ≡ 8) ⊎ ((status ≡ cert_status (one_future_cert c)) × Prints a (cert_text c (one_future_cert c)))
     by_outcome (inl fault) = absurd (calm fault.1)

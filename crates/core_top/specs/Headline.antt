@@ -1,5 +1,5 @@
 -- What the top call owes.
-use Rattle.std.specs.Prelude.{◌≡◌, ◌⊎◌, ℕ, ◌≤◌, List, ℤ, ⊤, Option, Some, None, IsSome}
+use Rattle.std.specs.Prelude.{◌≡◌, ◌⊎◌, ℕ, ◌≤◌, List, ℤ, ⊤, true, Option, Some, None, IsSome}
 use Rattle.core_io.specs.Causes.{Rose, Appends, AppendsPart}
 use Rattle.core_case.specs.View.{CaseView}
 use Rattle.core_model.specs.declared.cert.Calendar.{Calendar}
@@ -7,7 +7,7 @@ use Rattle.core_model.specs.declared.cert.Weights.{Weights}
 use Rattle.core_model.specs.declared.cert.Cert.TheVariants.{Closes, Cannot}
 use Rattle.core_model.specs.Shows.{ShowsLeast, ShowsNone}
 use Rattle.core_cert.specs.Written.{cert_text}
-use Rattle.core_top.specs.OneFuture.{one_future_cert}
+use Rattle.core_top.specs.OneFuture.{is_one_future, one_future_cert}
 use Rattle.core_top.specs.Words.{Command, Margin, case_name, command_of}
 use Rattle.core_top.specs.Due.{HasCase, IsDue, cert_status, usage_said, case_fault_said}
 
@@ -57,7 +57,7 @@ pub record PrintsNone (a : Around) (c : CaseView) : Type 0 where
   pub prints : Prints a (cert_text c (Cannot weights))
   pub shows : ShowsNone c weights
 
--- Each answer of `margin` on a case that is read has its cause.
+-- Each answer of `margin` on a book of one future has its cause.
 pub data MarginAnswer (a : Around) (name : List ℕ) (c : CaseView) : ℕ → Type 0 where
   least : PrintsLeast a c → MarginAnswer a name c 0
   none : PrintsNone a c → MarginAnswer a name c 1
@@ -68,7 +68,7 @@ pub data MarginAnswer (a : Around) (name : List ℕ) (c : CaseView) : ℕ → Ty
 -- The main sentence.
 abbrev pub MarginOwes : Around → List (List ℕ) → ℕ → Type 0
 MarginOwes a words status =
-    (name : List ℕ) (c : CaseView) → command_of words ≡ Some (Margin name) → HasCase a.told name c → MarginAnswer a name c status
+    (name : List ℕ) (c : CaseView) → command_of words ≡ Some (Margin name) → HasCase a.told name c → is_one_future c ≡ true → MarginAnswer a name c status
 
 -- the shelf tells the bytes of the name that a command reads
 abbrev pub Tells : (List ℕ → Option (List ℕ)) → Option Command → Type 0
@@ -85,10 +85,10 @@ pub data Answered (a : Around) (command : Option Command) : ℕ → Type 0 where
 abbrev pub IsExact : Around → List (List ℕ) → ℕ → Type 0
 IsExact a words status = Tells a.told (command_of words) → Answered a (command_of words) status
 
--- Where no count rose, `margin` answers a case that is read with its certificate, or memory ran out.
+-- Where no count rose, `margin` answers a book of one future with its certificate, or memory ran out.
 abbrev pub IsComplete : Around → List (List ℕ) → ℕ → Type 0
 IsComplete a words status =
-    (name : List ℕ) (c : CaseView) → command_of words ≡ Some (Margin name) → HasCase a.told name c → (ShelfRose a name → ⊥) → (SinkRose a → ⊥)
+    (name : List ℕ) (c : CaseView) → command_of words ≡ Some (Margin name) → HasCase a.told name c → is_one_future c ≡ true → (ShelfRose a name → ⊥) → (SinkRose a → ⊥)
     → (status ≡ 8) ⊎ ((status ≡ cert_status (one_future_cert c)) × Prints a (cert_text c (one_future_cert c)))
 
 -- Causes that hold whatever the shelf tells.

@@ -1,8 +1,10 @@
 -- A book of one position in one future that may be closed on day 1 alone, and the certificate of its margin.
-use Rattle.std.specs.Prelude.{◌≡◌, ℕ, suc, ◌+◌, ◌≤◌, List, [], ◌∷◌, length, replicate, slice_set, ℤ, pos, neg_ℤ, ◌-ℤ◌, ◌*ℤ◌, int_le, int_lt, Bool, true, ◌&&◌, nat_le, if◌then◌else◌}
-use Rattle.core_case.specs.View.{CaseView, instrument, line, instrument_of, price, cash, limit, is_open}
-use Rattle.core_case.specs.declared.parts.Kind.TheVariants.{Future}
-use Rattle.core_case.specs.declared.parts.Side.TheVariants.{Position}
+use Rattle.std.specs.Prelude.{◌≡◌, ℕ, suc, ◌+◌, ◌≤◌, List, [], ◌∷◌, length, replicate, slice_set, ℤ, pos, neg_ℤ, ◌-ℤ◌, ◌*ℤ◌, int_le, int_lt, Bool, true, false, not, ◌&&◌, ◌==◌, nat_le, if◌then◌else◌}
+use Rattle.core_case.specs.View.{CaseView, instrument, line, instrument_of, price, cash, limit, is_open, has_holidays, has_cash}
+use Rattle.core_case.specs.declared.parts.Kind.{Kind}
+use Rattle.core_case.specs.declared.parts.Kind.TheVariants.{Future, Security}
+use Rattle.core_case.specs.declared.parts.Side.{Side}
+use Rattle.core_case.specs.declared.parts.Side.TheVariants.{Position, Collateral}
 use Rattle.core_model.specs.Closing.{size}
 use Rattle.core_model.specs.declared.cert.Weights.{Weights}
 use Rattle.core_model.specs.declared.cert.Cert.{Cert}
@@ -22,6 +24,24 @@ pub record IsOneFuture (c : CaseView) : Type 0 where
   pub no_pool : length c.pools ≡ 0
   pub no_member : length c.members ≡ 0
   pub no_cash : (t : ℕ) → cash c t ≡ pos 0
+
+-- whether a case is such a book: of the house and at most one market, without a holiday
+abbrev pub is_future : Kind → Bool
+is_future Future = true
+is_future Security = false
+
+abbrev pub is_position : Side → Bool
+is_position Position = true
+is_position Collateral = false
+
+abbrev pub is_one_position : CaseView → Bool
+is_one_position c =
+    (length c.instruments == 1) && (length c.lines == 1) && is_future (instrument c (instrument_of c 0)).kind && is_position (line c 0).side
+
+abbrev pub is_one_future : CaseView → Bool
+is_one_future c =
+    (c.horizon == 1) && nat_le (length c.holidays) 2 && not (has_holidays c) && (length c.scenarios == 1) && (length c.pools == 0) && not (has_cash c)
+    && is_one_position c
 
 -- the price change of day 1 in the first scenario, and what it pays on one unit
 abbrev pub change : CaseView → ℤ

@@ -1,13 +1,14 @@
 // The answers, each a status and a text.
 ghost use Rattle.std.specs.Prelude.{◌≡◌, ◌≤◌, IfOk, length};
-ghost use Rattle.core_rows.specs.Fields.{records, row_text};
+ghost use Rattle.core_rows.specs.Fields.{row_text};
 ghost use Rattle.core_rows.specs.Written.{IsPlainRow};
 ghost use Rattle.core_case.specs.Kept.{IsCase};
+ghost use Rattle.core_case.specs.Stated.{case_of_bytes};
 ghost use Rattle.core_cert.specs.Written.{cert_text};
 ghost use Rattle.core_top.specs.OneFuture.{IsOneFuture, one_future_cert};
-ghost use Rattle.core_top.specs.Due.{bad_case_said, case_fault_said, cert_status, judged_status, judged_text, usage_said};
+ghost use Rattle.core_top.specs.Due.{bad_case_said, case_fault_said, case_status, case_text, cert_status, judged_status, judged_text, usage_said};
 
-use crate::one_future::one_future_cert;
+use crate::one_future::{is_one_future, one_future_cert};
 use core_case::{Case, CaseFault, read_case};
 use core_cert::write_cert;
 use core_model::Cert;
@@ -73,7 +74,7 @@ fn cert_status(cert: &Cert) -> u8
     }
 }
 
-/// The margin of a case of one future.
+/// The margin of a book of one future.
 fn margin(alloc: Global, case: &Case) -> Result<Due, AllocError>
     requires kept { IsCase case.now }
     requires one { IsOneFuture case.now }
@@ -87,13 +88,25 @@ fn margin(alloc: Global, case: &Case) -> Result<Due, AllocError>
     })
 }
 
+/// The answer to a case.
+fn judged_case(alloc: Global, case: &Case) -> Result<Due, AllocError>
+    requires { IsCase case.now }
+    ensures { IfOk result (λ due. (due.status ≡ case_status case.now) × (due.text.items ≡ case_text case.now)) }
+{
+    if is_one_future(case) {
+        margin(alloc, case)
+    } else {
+        bad_case(alloc, 0, 99)
+    }
+}
+
 /// The answer to the bytes of a case.
 pub(crate) fn judged(alloc: Global, bytes: &[u8]) -> Result<Due, AllocError>
     requires { length bytes.now ≤ 4194304 }
-    ensures { IfOk result (λ due. (due.status ≡ judged_status (records bytes.now)) × (due.text.items ≡ judged_text (records bytes.now))) }
+    ensures { IfOk result (λ due. (due.status ≡ judged_status (case_of_bytes bytes.now)) × (due.text.items ≡ judged_text (case_of_bytes bytes.now))) }
 {
     match read_case(alloc, bytes) {
-        Ok(case) => margin(alloc, &case),
+        Ok(case) => judged_case(alloc, &case),
         Err(CaseFault::Bad { row, code }) => bad_case(alloc, row, code),
         Err(CaseFault::NoMemory) => Err(AllocError),
     }

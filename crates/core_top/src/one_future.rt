@@ -5,11 +5,37 @@ ghost use Rattle.core_case.specs.Kept.{IsCase};
 ghost use Rattle.core_case.specs.View.{instrument, instrument_of, line};
 ghost use Rattle.core_model.specs.Closing.{size};
 ghost use Rattle.core_model.specs.declared.cert.Cert.TheVariants.{Cannot};
-ghost use Rattle.core_top.specs.OneFuture.{IsOneFuture, change, closing_cert, gain, mark_day, may_close, limit_takes, no_weight, weight_on, weights_over_one, closes_with, one_future_cert};
+ghost use Rattle.core_top.specs.OneFuture.{IsOneFuture, is_one_future, is_one_position, change, closing_cert, gain, mark_day, may_close, limit_takes, no_weight, weight_on, weights_over_one, closes_with, one_future_cert};
 
-use core_case::{Case, Instr};
+use core_case::{Case, Instr, Kind, Side};
 use core_model::{Calendar, Cert, Numbers, Weights};
 use std::alloc::{AllocError, Global};
+
+/// Whether a case is a book of one future.
+pub(crate) fn is_one_future(case: &Case) -> bool
+    requires { IsCase case.now }
+    ensures { result ≡ is_one_future case.now }
+{
+    case.horizon() == 1
+        && case.markets() <= 2
+        && !case.has_holidays()
+        && case.scenarios() == 1
+        && case.pools() == 0
+        && !case.has_cash()
+        && is_one_position(case)
+}
+
+/// Whether a case has one instrument, which is a future, and one line, which is a position.
+fn is_one_position(case: &Case) -> bool
+    requires { IsCase case.now }
+    ensures { result ≡ is_one_position case.now }
+{
+    if case.instruments() != 1 || case.lines() != 1 {
+        return false;
+    }
+    let line = case.line(0);
+    case.instrument(line.instrument).kind == Kind::Future && line.side == Side::Position
+}
 
 /// The instrument of the only line.
 fn only_instrument(case: &Case) -> Instr

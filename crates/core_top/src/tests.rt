@@ -206,21 +206,23 @@ fn refuses_where_the_day_or_the_limit_forbids(rt: HostRuntime) -> Result<(), Fai
 }
 
 #[test]
-fn names_a_file_that_is_no_case_or_too_long(rt: HostRuntime) -> Result<(), Fail> {
+fn names_the_first_fault_of_a_file_that_is_no_case(rt: HostRuntime) -> Result<(), Fail> {
     let alloc = rt.alloc();
     let good = case_text(alloc, GOOD)?;
     let newer = good.replace(alloc, "core,1", "core,2")?;
     let cut = good.replace(alloc, "end\n", "")?;
     let longer = good.replace(alloc, "end\n", "end\nend\n")?;
     let fewer_prices = good.replace(alloc, "100,90,90", "100,90")?;
+    let with_cash = good.replace(alloc, "end\n", "cash,1,5\nend\n")?;
     let long = vec![in alloc; b'x'; 4_194_305]?;
     for (case, want) in [
-        (b"".as_slice(), "bad,case,0,99\n"),
-        (newer.as_bytes(), "bad,case,0,99\n"),
-        (cut.as_bytes(), "bad,case,0,99\n"),
-        (longer.as_bytes(), "bad,case,0,99\n"),
-        (fewer_prices.as_bytes(), "bad,case,0,99\n"),
-        (&long[1..], "bad,case,0,99\n"),
+        (b"".as_slice(), "bad,case,1,1\n"),
+        (newer.as_bytes(), "bad,case,1,2\n"),
+        (cut.as_bytes(), "bad,case,9,17\n"),
+        (longer.as_bytes(), "bad,case,10,16\n"),
+        (fewer_prices.as_bytes(), "bad,case,7,5\n"),
+        (with_cash.as_bytes(), "bad,case,0,99\n"),
+        (&long[1..], "bad,case,1,1\n"),
         (long.as_slice(), "bad,case,0,0\n"),
     ] {
         let (status, said) = margin(alloc, case)?;

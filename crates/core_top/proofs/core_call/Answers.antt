@@ -5,7 +5,7 @@ use Rattle.core_top.proofs.Owed.{written-margin, written-exact, written-complete
 use Rattle.core_top.proofs.core_call.Goals as goal
 
 pub returns-in-Err-clause-margin : goal.returns-in-Err-clause-margin
-returns-in-Err-clause-margin g c = λ name case e has. no_memory refl
+returns-in-Err-clause-margin g c = λ name case e has one. no_memory refl
 
 pub returns-in-Err-clause-exact : goal.returns-in-Err-clause-exact
 returns-in-Err-clause-exact g c = λ tells. unanswered refl
@@ -26,7 +26,7 @@ returns-in-Ok-write_all-clause-complete g c =
     (words_of c.args.words.now.items) c.in-Ok.due.status c.in-Ok.due.text.items c.in-Ok.ensures.due (rw c.deref.ensures.value at c.in-Ok-write_all.ensures.appends)
 
 pub returns-clause-margin : goal.returns-clause-margin
-returns-clause-margin g c = λ name case e has. write_fault c.in-Err-write_all.ensures.cause
+returns-clause-margin g c = λ name case e has one. write_fault c.in-Err-write_all.ensures.cause
 
 pub returns-clause-exact : goal.returns-clause-exact
 returns-clause-exact g c =

@@ -1,7 +1,7 @@
 use Rattle.std.proofs.Common.{rules, sym, ◌∙◌}
 use Rattle.std.proofs.lemmas.Result.{IfOk-weaker}
 use Rattle.core_io.specs.Causes.{Rose}
-use Rattle.core_rows.specs.Fields.{records}
+use Rattle.core_case.specs.Stated.{case_of_bytes}
 use Rattle.core_top.proofs.Dues.{fault-due, long-due, judged-due, judged-in, judged-no_fault}
 use Rattle.core_top.proofs.margin.Goals as goal
 
@@ -19,8 +19,8 @@ returns-in-Ok-clause-due g c =
 
 pub returns-in-Ok-clause-read : goal.returns-in-Ok-clause-read
 returns-in-Ok-clause-read g c =
-    IfOk-weaker c.judged.result _ _ (λ due e six. absurd (judged-no_fault (records c.in-Ok.bytes.items) (sym e.0 ∙ six))) (rw c.deref.ensures.value at c.judged.ensures)
+    IfOk-weaker c.judged.result _ _ (λ due e six. absurd (judged-no_fault (case_of_bytes c.in-Ok.bytes.items) (sym e.0 ∙ six))) (rw c.deref.ensures.value at c.judged.ensures)
 
 pub returns-in-Ok-clause-status : goal.returns-in-Ok-clause-status
 returns-in-Ok-clause-status g c =
-    IfOk-weaker c.judged.result _ _ (λ due e. rw e.0 (judged-in (records c.in-Ok.bytes.items))) (rw c.deref.ensures.value at c.judged.ensures)
+    IfOk-weaker c.judged.result _ _ (λ due e. rw e.0 (judged-in (case_of_bytes c.in-Ok.bytes.items))) (rw c.deref.ensures.value at c.judged.ensures)

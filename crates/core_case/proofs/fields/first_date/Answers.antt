@@ -1,5 +1,5 @@
 use Rattle.std.proofs.Common.{◌≡◌}
-use Rattle.core_case.proofs.Ranges.{first_date-civil}
+use Rattle.core_case.proofs.FormsDates.{first_date-civil}
 use Rattle.core_case.proofs.fields.first_date.Goals as goal
 
 pub returns : goal.returns

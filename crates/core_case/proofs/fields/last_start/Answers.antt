@@ -1,5 +1,5 @@
 use Rattle.std.proofs.Common.{◌≡◌}
-use Rattle.core_case.proofs.Ranges.{last_start-civil}
+use Rattle.core_case.proofs.FormsDates.{last_start-civil}
 use Rattle.core_case.proofs.fields.last_start.Goals as goal
 
 pub returns : goal.returns

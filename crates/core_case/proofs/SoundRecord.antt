@@ -1,0 +1,278 @@
+-- What a sound record keeps, step by step, and that all records before a first fault are sound.
+use Rattle.std.proofs.Common.{◌≡◌, refl, sym, ◌∙◌, ap, subst, cond, ℕ, zero, suc, ◌+◌, ◌<◌, ◌≤◌, ◌⊎◌, inl, inr, arith, List, [], ◌∷◌, ◌++◌, length, take, drop, map, get_or, length-drop, Bool, true, false, not, is_some, Option, Some, None}
+use Rattle.std.specs.Option.{option_or}
+use Rattle.std.specs.List.{find}
+use Rattle.std.proofs.lemmas.Bool.{eqb-true, cases_lt}
+use Rattle.std.proofs.lemmas.List.{append-nil, append_assoc, length-append, take_at, get_or_at, get_or-drop}
+use Rattle.core_sums.specs.Places.{row_at}
+use Rattle.core_rows.specs.Names.{Record}
+use Rattle.core_case.specs.declared.kinds.RecordKind.{RecordKind}
+use Rattle.core_case.specs.declared.kinds.RecordKind.TheVariants.{Core}
+use Rattle.core_case.specs.declared.forms.Form.{Form}
+use Rattle.core_case.specs.declared.forms.Form.TheVariants.{Version}
+use Rattle.core_case.specs.declared.faults.RecordFault.{RecordFault}
+use Rattle.core_case.specs.declared.faults.RecordFault.TheVariants.{EndMissing}
+use Rattle.core_case.specs.Kinds.{field, is_kind, kind_of, kinds, forms, references}
+use Rattle.core_case.specs.Faults.{Faulty, fault_of, fault_unless, first_fault, first_fault_after, missing_end, first_of, by_form, end_before, kind_step, later_fault, own_fault, book_fault, form_fault, range_fault, horizon_in, last_in, order_step, zero_step, name_step, security_step, repeats, has_room, end_step, has_ended}
+
+-- the steps that a sound record of a kind passes, among the records before it
+pub record SoundRecord (earlier : List Record) (r : Record) (kind : RecordKind) : Type 0 where
+  pub kind_is : kind_of r ≡ Some kind
+  pub of_kind : is_kind kind r ≡ true
+  pub going_on : has_ended earlier ≡ false
+  pub order : order_step (length earlier) kind ≡ None
+  pub count : length r ≡ suc (length (forms (horizon_in earlier) (last_in earlier) r kind))
+  pub formed : (n : ℕ) → n < length (forms (horizon_in earlier) (last_in earlier) r kind)
+      → form_fault (get_or (forms (horizon_in earlier) (last_in earlier) r kind) n Version) (field r (suc n)) ≡ None
+  pub ranged : (n : ℕ) → n < length (forms (horizon_in earlier) (last_in earlier) r kind)
+      → range_fault (get_or (forms (horizon_in earlier) (last_in earlier) r kind) n Version) (field r (suc n)) ≡ None
+  pub not_zero : zero_step r kind ≡ None
+  pub names : first_of (map (name_step earlier r) (references kind)) ≡ None
+  pub security : security_step earlier r kind ≡ None
+  pub is_new : repeats earlier r kind ≡ false
+  pub room : has_room earlier r kind ≡ true
+  pub complete : end_step earlier kind ≡ None
+
+-- a test that gives no fault holds
+pub holds-from_none : (b : Bool) (fault : RecordFault) → fault_unless b fault ≡ None → b ≡ true
+holds-from_none true fault e = refl
+holds-from_none false fault e = absurd (cc)
+
+-- a test that is turned and gives no fault fails
+pub fails-from_none : (b : Bool) (fault : RecordFault) → fault_unless (not b) fault ≡ None → b ≡ false
+fails-from_none true fault e = absurd (cc)
+fails-from_none false fault e = refl
+
+-- where one of two or the other gives none, neither is there
+neither : (x y : Option RecordFault) → option_or x y ≡ None → (x ≡ None) × (y ≡ None)
+neither None y e = (refl, e)
+neither (Some fault) y e = absurd (cc)
+
+-- where no step of a list has a fault, the first has none, nor has any after it
+pub first_of-parts : (x : Option RecordFault) (xs : List (Option RecordFault)) → first_of (x ∷ xs) ≡ None → (x ≡ None) × (first_of xs ≡ None)
+unfolding first_of
+first_of-parts x xs e = neither x (first_of xs) e
+
+-- where the fields have no fault, each has none
+form-at : (test : Form → List ℕ → Option RecordFault) (fs : List Form) (r : Record) (n : ℕ) → length r ≡ length fs
+    → first_of (by_form test fs r) ≡ None → n < length fs → test (get_or fs n Version) (get_or r n []) ≡ None
+unfolding by_form
+form-at test [] r n same e within = absurd (omega (arith, within))
+form-at test (f ∷ fs) [] n same e within = absurd (omega (arith, same))
+form-at test (f ∷ fs) (word ∷ r) zero same e within = (first_of-parts (test f word) (by_form test fs r) e).0
+form-at test (f ∷ fs) (word ∷ r) (suc n) same e within =
+    form-at test fs r n (omega (arith, same)) (first_of-parts (test f word) (by_form test fs r) e).1 (omega (arith, within))
+
+-- the same of the fields after the kind
+field-at : (test : Form → List ℕ → Option RecordFault) (fs : List Form) (r : Record) → length r ≡ suc (length fs)
+    → first_of (by_form test fs (drop 1 r)) ≡ None → (n : ℕ) → n < length fs → test (get_or fs n Version) (field r (suc n)) ≡ None
+field-at test fs r count e n within =
+    let same : length (drop 1 r) ≡ length fs = omega (arith, count, length-drop 1 r) in
+    let place : 1 + n ≡ suc n = omega arith in
+    let word : get_or (drop 1 r) n [] ≡ field r (suc n) = get_or-drop 1 r n [] ∙ ap (λ k. field r k) place in
+    subst (λ (w : List ℕ). test (get_or fs n Version) w ≡ None) word (form-at test fs (drop 1 r) n same e within)
+
+-- what is found passes the test
+found-passes : {X : Type 0} (p : X → Bool) (xs : List X) (x : X) → find p xs ≡ Some x → p x ≡ true
+found-passes p [] x e = absurd (cc)
+found-passes p (y ∷ ys) x e = split (found-passes p ys x) (p y) refl e
+  where
+    split : (find p ys ≡ Some x → p x ≡ true) → (b : Bool) → p y ≡ b → cond b (Some y) (find p ys) ≡ Some x → p x ≡ true
+    split rest true is here = let same : y ≡ x = cc in ap p (sym same) ∙ is
+    split rest false is here = rest here
+
+-- the steps of the record alone
+record OwnSound (place : ℕ) (fs : List Form) (r : Record) (kind : RecordKind) : Type 0 where
+  order : order_step place kind ≡ None
+  count : length r ≡ suc (length fs)
+  formed : (n : ℕ) → n < length fs → form_fault (get_or fs n Version) (field r (suc n)) ≡ None
+  ranged : (n : ℕ) → n < length fs → range_fault (get_or fs n Version) (field r (suc n)) ≡ None
+  not_zero : zero_step r kind ≡ None
+
+-- a record with no fault of its own passes the steps of the record alone
+own-sound : (place : ℕ) (fs : List Form) (r : Record) (kind : RecordKind) → own_fault place fs r kind ≡ None → OwnSound place fs r kind
+own-sound place fs r kind e =
+    let ordered = first_of-parts _ _ e in
+    let counted = first_of-parts _ _ ordered.1 in
+    let forms_are = first_of-parts _ _ counted.1 in
+    let ranges_are = first_of-parts _ _ forms_are.1 in
+    let zeros = first_of-parts _ _ ranges_are.1 in
+    let count : length r ≡ suc (length fs) = eqb-true (length r) (suc (length fs)) (holds-from_none _ _ counted.0) in
+    record {
+      order = ordered.0;
+      count = count;
+      formed = field-at form_fault fs r count forms_are.0;
+      ranged = field-at range_fault fs r count ranges_are.0;
+      not_zero = zeros.0;
+    }
+
+-- the steps among the records before it
+record BookSound (earlier : List Record) (r : Record) (kind : RecordKind) : Type 0 where
+  names : first_of (map (name_step earlier r) (references kind)) ≡ None
+  security : security_step earlier r kind ≡ None
+  is_new : repeats earlier r kind ≡ false
+  room : has_room earlier r kind ≡ true
+  complete : end_step earlier kind ≡ None
+
+-- and one with no fault among those before it passes these steps
+book-sound : (earlier : List Record) (r : Record) (kind : RecordKind) → book_fault earlier r kind ≡ None → BookSound earlier r kind
+book-sound earlier r kind e =
+    let named = first_of-parts _ _ e in
+    let secure = first_of-parts _ _ named.1 in
+    let new = first_of-parts _ _ secure.1 in
+    let roomy = first_of-parts _ _ new.1 in
+    let completed = first_of-parts _ _ roomy.1 in
+    record {
+      names = named.0;
+      security = secure.0;
+      is_new = fails-from_none _ _ new.0;
+      room = holds-from_none _ _ roomy.0;
+      complete = completed.0;
+    }
+
+-- a record of a kind with no fault is sound
+of-kind-sound : (earlier : List Record) (r : Record) (kind : RecordKind) → kind_of r ≡ Some kind → has_ended earlier ≡ false
+    → later_fault earlier r (Some kind) ≡ None → SoundRecord earlier r kind
+of-kind-sound earlier r kind kind_is going_on e =
+    let parts = neither (own_fault (length earlier) (forms (horizon_in earlier) (last_in earlier) r kind) r kind) (book_fault earlier r kind) e in
+    let own = own-sound (length earlier) (forms (horizon_in earlier) (last_in earlier) r kind) r kind parts.0 in
+    let book = book-sound earlier r kind parts.1 in
+    record {
+      kind_is = kind_is;
+      of_kind = found-passes (λ k. is_kind k r) kinds kind kind_is;
+      going_on = going_on;
+      order = own.order;
+      count = own.count;
+      formed = own.formed;
+      ranged = own.ranged;
+      not_zero = own.not_zero;
+      names = book.names;
+      security = book.security;
+      is_new = book.is_new;
+      room = book.room;
+      complete = book.complete;
+    }
+
+-- a record that passes the step of the kind has one
+has-kind : (place : ℕ) (r : Record) → kind_step place r ≡ None → kind_of r ≡ None → ⊥
+has-kind zero r e none =
+    let core : is_kind Core r ≡ true = holds-from_none _ _ e in
+    let is : kind_of r ≡ Some Core = rw core refl in
+    cc
+has-kind (suc n) r e none =
+    let known : is_some (kind_of r) ≡ true = holds-from_none _ _ e in
+    let unknown : is_some (kind_of r) ≡ false = ap (λ o. is_some o) none in
+    cc
+
+-- a record without a fault is sound, and of some kind
+pub sound-record : (earlier : List Record) (r : Record) → fault_of earlier r ≡ None → (kind : RecordKind) × SoundRecord earlier r kind
+sound-record earlier r e = split (kind_of r) refl
+  where
+    going : (end_before earlier ≡ None) × (first_of (kind_step (length earlier) r ∷ later_fault earlier r (kind_of r) ∷ []) ≡ None)
+    going = first_of-parts _ _ e
+
+    known : (kind_step (length earlier) r ≡ None) × (first_of (later_fault earlier r (kind_of r) ∷ []) ≡ None)
+    known = first_of-parts _ _ going.1
+
+    later : later_fault earlier r (kind_of r) ≡ None
+    later = (first_of-parts _ _ known.1).0
+
+    split : (o : Option RecordKind) → kind_of r ≡ o → (kind : RecordKind) × SoundRecord earlier r kind
+    split None is = absurd (has-kind (length earlier) r known.0 is)
+    split (Some kind) is =
+        (kind, of-kind-sound earlier r kind is (fails-from_none _ _ going.0) (subst (λ (o : Option RecordKind). later_fault earlier r o ≡ None) is later))
+
+-- where a record and those after it have no first fault, it has no fault, and no more have those after it
+none-here : (o : Option RecordFault) (n : ℕ) (later : Option Faulty) → ◌≡◌ {A = Option Faulty} (elim o [ Some fault ↦ Some (suc n, fault) | None ↦ later ]) None
+    → (o ≡ None) × (later ≡ None)
+none-here None n later e = (refl, e)
+none-here (Some fault) n later e = absurd (cc)
+
+-- the record that comes next has no fault, and no more have those after it
+next-sound : (earlier : List Record) (r : Record) (rs : List Record) → first_fault_after earlier (r ∷ rs) ≡ None
+    → (fault_of earlier r ≡ None) × (first_fault_after (earlier ++ (r ∷ [])) rs ≡ None)
+unfolding first_fault_after
+next-sound earlier r rs e = none-here (fault_of earlier r) (length earlier) (first_fault_after (earlier ++ (r ∷ [])) rs) e
+
+-- the record at a place, among records that came before and those after
+sound-after : (earlier rs : List Record) → first_fault_after earlier rs ≡ None → (i : ℕ) → length earlier ≤ i → i < length (earlier ++ rs)
+    → (kind : RecordKind) × SoundRecord (take i (earlier ++ rs)) (row_at (earlier ++ rs) i) kind
+sound-after earlier [] e i from within = absurd (omega (arith, from, within, ap length (append-nil earlier)))
+sound-after earlier (r ∷ rs) e i from within = split (sound-after (earlier ++ (r ∷ [])) rs (next-sound earlier r rs e).1 i) (cases_lt (length earlier) i)
+  where
+    parts : (fault_of earlier r ≡ None) × (first_fault_after (earlier ++ (r ∷ [])) rs ≡ None)
+    parts = next-sound earlier r rs e
+
+    joined : (earlier ++ (r ∷ [])) ++ rs ≡ earlier ++ (r ∷ rs)
+    joined = append_assoc earlier (r ∷ []) rs
+
+    split : (length (earlier ++ (r ∷ [])) ≤ i → i < length ((earlier ++ (r ∷ [])) ++ rs)
+        → (kind : RecordKind) × SoundRecord (take i ((earlier ++ (r ∷ [])) ++ rs)) (row_at ((earlier ++ (r ∷ [])) ++ rs) i) kind)
+        → (length earlier < i) ⊎ (i ≤ length earlier) → (kind : RecordKind) × SoundRecord (take i (earlier ++ (r ∷ rs))) (row_at (earlier ++ (r ∷ rs)) i) kind
+    split rest (inl less) =
+        subst (λ (all : List Record). (kind : RecordKind) × SoundRecord (take i all) (row_at all i) kind) joined
+        (rest (omega (arith, less, length-append earlier (r ∷ []))) (omega (arith, within, ap length joined)))
+    split rest (inr more) =
+        let here : length earlier ≡ i = omega (arith, from, more) in
+        let before : take i (earlier ++ (r ∷ rs)) ≡ earlier = take_at earlier (r ∷ rs) i here in
+        let this : row_at (earlier ++ (r ∷ rs)) i ≡ r = get_or_at earlier r rs [] i here in
+        let sound = sound-record earlier r parts.0 in (
+          sound.0,
+          subst (λ (x : Record). SoundRecord (take i (earlier ++ (r ∷ rs))) x sound.0) (sym this)
+              (subst (λ (xs : List Record). SoundRecord xs r sound.0) (sym before) sound.1),
+        )
+
+-- before a first fault each record is sound among those before it
+pub sound-at : (rs : List Record) → first_fault rs ≡ None → (i : ℕ) → i < length rs → (kind : RecordKind) × SoundRecord (take i rs) (row_at rs i) kind
+sound-at rs e i within = sound-after [] rs e i (omega arith) within
+
+-- what holds of no records, and of one more sound record after those of which it holds, holds of all
+one-more-after : (P : List Record → Type 0) → ((earlier : List Record) (r : Record) (kind : RecordKind) → P earlier → SoundRecord earlier r kind → P (earlier ++ (r ∷ [])))
+    → (earlier rs : List Record) → P earlier → first_fault_after earlier rs ≡ None → P (earlier ++ rs)
+one-more-after P more earlier [] so_far e = subst P (sym (append-nil earlier)) so_far
+one-more-after P more earlier (r ∷ rs) so_far e =
+    let parts = next-sound earlier r rs e in
+    let sound = sound-record earlier r parts.0 in
+    subst P (append_assoc earlier (r ∷ []) rs)
+    (one-more-after P more (earlier ++ (r ∷ [])) rs (more earlier r sound.0 so_far sound.1) parts.1)
+
+-- so it holds of a sound file, where it holds of no records
+pub by-one-more : (P : List Record → Type 0) → P [] → ((earlier : List Record) (r : Record) (kind : RecordKind) → P earlier → SoundRecord earlier r kind → P (earlier ++ (r ∷ [])))
+    → (rs : List Record) → first_fault rs ≡ None → P rs
+by-one-more P none more rs e = one-more-after P more [] rs none e
+
+-- a choice between none and a fault that gives none
+chosen-none : (b : Bool) (faulty : Faulty) → cond b None (Some faulty) ≡ None → b ≡ true
+chosen-none true faulty e = refl
+chosen-none false faulty e = absurd (cc)
+
+-- where no `end` is missed, it is there
+end-is-there : (rs : List Record) → missing_end rs ≡ None → has_ended rs ≡ true
+end-is-there [] e = absurd (cc)
+end-is-there (r ∷ rs) e = chosen-none (has_ended (r ∷ rs)) (suc (length (r ∷ rs)), EndMissing) e
+
+-- so it is there among records that came before and those after
+ended-after : (earlier rs : List Record) → first_fault_after earlier rs ≡ None → has_ended (earlier ++ rs) ≡ true
+unfolding first_fault_after
+ended-after earlier [] e = subst (λ (xs : List Record). has_ended xs ≡ true) (sym (append-nil earlier)) (end-is-there earlier e)
+ended-after earlier (r ∷ rs) e =
+    subst (λ (xs : List Record). has_ended xs ≡ true) (append_assoc earlier (r ∷ []) rs)
+    (ended-after (earlier ++ (r ∷ [])) rs (next-sound earlier r rs e).1)
+
+-- so `end` is among the records of a sound file
+pub ended : (rs : List Record) → first_fault rs ≡ None → has_ended rs ≡ true
+ended rs e = ended-after [] rs e
+
+-- the first record is `core`
+first-is-core : (rs : List Record) → first_fault_after [] rs ≡ None → is_kind Core (row_at rs 0) ≡ true
+unfolding first_fault_after
+first-is-core [] e = absurd (cc)
+first-is-core (r ∷ rs) e =
+    let sound : fault_of [] r ≡ None = (next-sound [] r rs e).0 in
+    let going = first_of-parts _ _ sound in
+    let known = first_of-parts _ _ going.1 in
+    holds-from_none _ _ known.0
+
+-- so the first record of a sound file is `core`
+pub first-core : (rs : List Record) → first_fault rs ≡ None → is_kind Core (row_at rs 0) ≡ true
+first-core rs e = first-is-core rs e

@@ -1,0 +1,10 @@
+use Rattle.std.proofs.Common.{arith, ◌<◌, ◌≤◌, length, map, subst, sym}
+use Rattle.jiff.specs.Words.{epoch_day}
+use Rattle.std.proofs.lemmas.List.{length-map}
+use Rattle.core_case.proofs.Lookups.{few-holidays}
+use Rattle.core_case.proofs.case.Case.of_book.Goals as goal
+
+pub house_days-requires-clause-few : goal.house_days-requires-clause-few
+house_days-requires-clause-few c =
+    let some : 0 < length c.args.book.holidays.items = omega (arith, c.requires.holidays.0, length-map c.args.book.holidays.items (λ v. map epoch_day v.items)) in
+    subst (λ ds. length ds ≤ 400) (sym c.deref.ensures.value) (few-holidays c.args.book 0 c.index.result.now c.requires some c.index.ensures)

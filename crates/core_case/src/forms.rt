@@ -1,0 +1,215 @@
+// What the fields of a record are to be, and the faults of a record by itself.
+ghost use Rattle.std.specs.Prelude.{◌≡◌, ◌<◌, ◌^◌, [], suc, length, get_or, drop, true, false, if◌then◌else◌, is_some, Some, None, Ok, Err, IfOk, IfErr};
+ghost use Rattle.jiff.specs.Words.{epoch_day};
+ghost use Rattle.core_rows.specs.Fields.{day_of};
+ghost use Rattle.core_case.specs.Kinds.{forms};
+ghost use Rattle.core_case.specs.Faults.{by_form, fault_unless, first_date, first_of, form_fault, is_between, order_step, own_fault, range_fault, zero_step};
+ghost use Rattle.core_case.specs.declared.faults.RecordFault.TheVariants.{NotADate, OutOfRange};
+ghost use Rattle.core_case.specs.declared.forms.Form.TheVariants.{Version, Number};
+ghost use Rattle.core_case.specs.declared.kinds.RecordKind.TheVariants.{Instrument};
+
+use crate::faults::RecordFault;
+use crate::fields::{day_is_between, first_date, last_holiday, last_start, number_in, same, word};
+use crate::kinds::RecordKind;
+use core_rows::{Fields, day_text, name_of, whole};
+use jiff::civil::Date;
+
+/// What a field is to be.
+#[derive(Clone, Copy, Debug)]
+pub(crate) enum Form {
+    /// The version, which is 1.
+    Version,
+    /// A name.
+    Name,
+    /// `future` or `security`.
+    InstrumentKind,
+    /// A whole number from `low` to `high`.
+    Number { low: i64, high: i64 },
+    /// A date of the years 1900 to 2200.
+    StartDate,
+    /// A date of the years 1900 to 2210.
+    HolidayDate,
+}
+
+/// The days of a case, as the second record states them: the last closing day and the last house day.
+#[derive(Clone, Copy)]
+pub(crate) struct Spans {
+    pub(crate) horizon: usize,
+    pub(crate) last: usize,
+}
+
+/// How many fields a record of this kind has after the first.
+fn field_count(spans: Spans, row: &Fields, kind: RecordKind) -> usize
+    requires horizon { spans.horizon < 2 ^ 63 }
+    requires last { spans.last < 2 ^ 63 }
+    ensures { result ≡ length (forms spans.horizon spans.last row.now kind) }
+{
+    match kind {
+        RecordKind::End => 0,
+        RecordKind::Core | RecordKind::Market | RecordKind::Scenario => 1,
+        RecordKind::Holiday
+        | RecordKind::Pool
+        | RecordKind::Position
+        | RecordKind::Collateral
+        | RecordKind::Cash => 2,
+        RecordKind::House | RecordKind::Member => 3,
+        RecordKind::Instrument => 6,
+        RecordKind::Limit => spans.horizon + 1,
+        RecordKind::Path => spans.last + 3,
+    }
+}
+
+/// A number in a range.
+fn number(low: i64, high: i64) -> Form
+    ensures { result ≡ Number low high }
+{
+    Form::Number { low, high }
+}
+
+/// What the field at a place after the kind is to be, for an instrument.
+fn instrument_form(place: usize) -> Form
+    requires { place < 6 }
+    ensures { result ≡ get_or (forms 0 0 [] Instrument) place Version }
+{
+    match place {
+        0 | 2 => Form::Name,
+        1 => Form::InstrumentKind,
+        3 => number(1, 1_000_000),
+        4 => number(1, 20),
+        _ => number(0, 10),
+    }
+}
+
+/// What the field at a place after the kind is to be.
+fn form_at(spans: Spans, row: &Fields, kind: RecordKind, place: usize) -> Form
+    requires last { spans.last < 2 ^ 63 }
+    requires place { place < length (forms spans.horizon spans.last row.now kind) }
+    ensures { result ≡ get_or (forms spans.horizon spans.last row.now kind) place Version }
+{
+    match (kind, place) {
+        (RecordKind::Core | RecordKind::End, _) => Form::Version,
+        (RecordKind::House, 0) => Form::StartDate,
+        (RecordKind::House, 1) => number(1, 20),
+        (RecordKind::House, _) => number(number_in(row, 2), 40),
+        (RecordKind::Instrument, _) => instrument_form(place),
+        (RecordKind::Cash, 0) => number(0, spans.last as i64),
+        (RecordKind::Cash, _) => number(-1_000_000_000_000_000, 1_000_000_000_000_000),
+        (_, 0) => Form::Name,
+        (RecordKind::Holiday, _) => Form::HolidayDate,
+        (RecordKind::Member | RecordKind::Path, 1) => Form::Name,
+        (RecordKind::Path, _) => number(-1_000_000_000_000, 1_000_000_000_000),
+        (RecordKind::Member, _) => number(1, 1_000_000),
+        (RecordKind::Position, _) => number(-1_000_000_000, 1_000_000_000),
+        (RecordKind::Collateral, _) => number(1, 1_000_000_000),
+        _ => number(0, 1_000_000_000),
+    }
+}
+
+/// True where the test passes, else the fault.
+fn true_unless(passes: bool, fault: RecordFault) -> Result<bool, RecordFault>
+    ensures { result ≡ (if passes then Ok true else Err fault) }
+{
+    if passes { Ok(true) } else { Err(fault) }
+}
+
+/// Whether the date that a word writes lies from the first date to `last`, or the fault of a word that writes none.
+fn date_in_range(word: &[u8], last: Date) -> Result<bool, RecordFault>
+    ensures form { IfOk result (λ _. is_some (day_of word.now) ≡ true) }
+    ensures range { IfOk result (λ within. is_between first_date (epoch_day last) (day_of word.now) ≡ within) }
+    ensures fault { IfErr result (λ fault. (fault ≡ NotADate) × (is_some (day_of word.now) ≡ false)) }
+{
+    match day_text(word) {
+        Some(day) => Ok(day_is_between(day, first_date(), last)),
+        None => Err(RecordFault::NotADate),
+    }
+}
+
+/// Whether a field is in its range, or the fault of a field that has not its form.
+fn field_in_range(form: Form, word: &[u8]) -> Result<bool, RecordFault>
+    ensures form { IfOk result (λ _. form_fault form word.now ≡ None) }
+    ensures range { IfOk result (λ within. range_fault form word.now ≡ fault_unless within OutOfRange) }
+    ensures fault { IfErr result (λ fault. form_fault form word.now ≡ Some fault) }
+{
+    match form {
+        Form::Version => true_unless(same(word, b"1"), RecordFault::NotVersionOne),
+        Form::Name => true_unless(name_of(word).is_some(), RecordFault::NotAName),
+        Form::InstrumentKind => true_unless(
+            same(word, b"future") || same(word, b"security"),
+            RecordFault::NotAnInstrumentKind,
+        ),
+        Form::Number { low, high } => match whole(word) {
+            Some(number) => Ok(low <= number && number <= high),
+            None => Err(RecordFault::NotANumber),
+        },
+        Form::StartDate => date_in_range(word, last_start()),
+        Form::HolidayDate => date_in_range(word, last_holiday()),
+    }
+}
+
+/// The fault where the test fails.
+pub(crate) fn fault_unless(passes: bool, fault: RecordFault) -> Option<RecordFault>
+    ensures { result ≡ fault_unless passes fault }
+{
+    if passes { None } else { Some(fault) }
+}
+
+/// Whether the fields of a record are all in their ranges, or, where fields have not their forms, the fault of the first.
+fn fields_in_range(spans: Spans, row: &Fields, kind: RecordKind) -> Result<bool, RecordFault>
+    requires last { spans.last < 2 ^ 63 }
+    requires count { length row.now ≡ suc (length (forms spans.horizon spans.last row.now kind)) }
+    ensures form { IfOk result (λ _. first_of (by_form form_fault (forms spans.horizon spans.last row.now kind) (drop 1 row.now)) ≡ None) }
+    ensures range { IfOk result (λ within. first_of (by_form range_fault (forms spans.horizon spans.last row.now kind) (drop 1 row.now)) ≡ fault_unless within OutOfRange) }
+    ensures fault { IfErr result (λ fault. first_of (by_form form_fault (forms spans.horizon spans.last row.now kind) (drop 1 row.now)) ≡ Some fault) }
+{
+    let mut in_range = true;
+    for i in 1..row.len() {
+        in_range &= field_in_range(form_at(spans, row, kind, i - 1), word(row, i))?;
+    }
+    Ok(in_range)
+}
+
+/// The fault of a record that does not stand in its place: `core` is the first, `house` the second.
+fn order_fault(place: usize, kind: RecordKind) -> Option<RecordFault>
+    ensures { result ≡ order_step place kind }
+{
+    let in_order = match place {
+        0 => true,
+        1 => kind == RecordKind::House,
+        _ => kind != RecordKind::Core && kind != RecordKind::House,
+    };
+    fault_unless(in_order, RecordFault::OutOfOrder)
+}
+
+/// The fault of a position of 0.
+fn zero_fault(row: &Fields, kind: RecordKind) -> Option<RecordFault>
+    ensures { result ≡ zero_step row.now kind }
+{
+    fault_unless(
+        kind != RecordKind::Position || number_in(row, 2) != 0,
+        RecordFault::OutOfRange,
+    )
+}
+
+/// The fault of a record of this kind by itself, where so many records came before.
+pub(crate) fn own_fault(
+    place: usize,
+    spans: Spans,
+    row: &Fields,
+    kind: RecordKind,
+) -> Option<RecordFault>
+    requires horizon { spans.horizon < 2 ^ 63 }
+    requires last { spans.last < 2 ^ 63 }
+    ensures { result ≡ own_fault place (forms spans.horizon spans.last row.now kind) row.now kind }
+{
+    if let Some(fault) = order_fault(place, kind) {
+        return Some(fault);
+    }
+    if row.len() != field_count(spans, row, kind) + 1 {
+        return Some(RecordFault::FieldCount);
+    }
+    match fields_in_range(spans, row, kind) {
+        Err(fault) => Some(fault),
+        Ok(false) => Some(RecordFault::OutOfRange),
+        Ok(true) => zero_fault(row, kind),
+    }
+}

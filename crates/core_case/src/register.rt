@@ -1,0 +1,376 @@
+// The sound records that were read so far, filed by their keys.
+ghost use Rattle.std.specs.Prelude.{◌≡◌};
+ghost use Rattle.core_case.specs.Kinds.{most_records};
+ghost use Rattle.core_case.specs.Faults.{group_of, key_of};
+
+use crate::faults::RecordFault;
+use crate::fields::{natural_in, same, word};
+use crate::forms::Spans;
+use crate::kinds::{RecordKind, is_kind};
+use core_rows::Fields;
+use indexmap::IndexMap;
+use std::alloc::{AllocError, Global};
+use std::marker::Model;
+
+/// The key of a record: its kind and two words, of which those are empty that the kind's key lacks.
+#[derive(Clone, Copy, PartialEq, Eq, Hash)]
+pub(crate) struct Key<'a> {
+    pub(crate) kind: RecordKind,
+    pub(crate) first: &'a [u8],
+    pub(crate) second: &'a [u8],
+}
+
+/// What is counted together: the records of a kind, of holidays those of one market.
+#[derive(Clone, Copy, PartialEq, Eq, Hash)]
+pub(crate) struct Group<'a> {
+    pub(crate) kind: RecordKind,
+    pub(crate) market: &'a [u8],
+}
+
+/// The sound records that were read so far. Contracts see the list of these records.
+#[derive(Drop)]
+pub(crate) struct Register<'a> {
+    pub(crate) rows: Vec<&'a Fields>,
+    pub(crate) filed: IndexMap<Key<'a>, &'a Fields>,
+    pub(crate) counts: IndexMap<Group<'a>, usize>,
+}
+
+impl<'a> Model for Register<'a> {
+    ghost use Rattle.std.specs.Prelude.{List};
+    ghost use Rattle.core_rows.specs.Names.{Record};
+    ghost use Rattle.core_case.specs.Filed.{records_in, Holds};
+
+    ghost Value = { List Record };
+
+    ghost view = { records_in };
+
+    ghost invariant = { λ a. Holds ⟦<Key<'static> as PartialEq>⟧.eq ⟦<Group<'static> as PartialEq>⟧.eq a (records_in a) };
+}
+
+/// The key of a record of this kind.
+fn key_of<'a>(kind: RecordKind, row: &'a Fields) -> Key<'a>
+    ensures kind { result.kind ≡ kind }
+    ensures first { result.first.now ≡ (key_of kind row.now).0 }
+    ensures second { result.second.now ≡ (key_of kind row.now).1 }
+{
+    match kind {
+        RecordKind::Core | RecordKind::House | RecordKind::End => Key {
+            kind,
+            first: b"",
+            second: b"",
+        },
+        RecordKind::Holiday | RecordKind::Member | RecordKind::Path => Key {
+            kind,
+            first: word(row, 1),
+            second: word(row, 2),
+        },
+        _ => Key {
+            kind,
+            first: word(row, 1),
+            second: b"",
+        },
+    }
+}
+
+/// What a record of this kind is counted with.
+fn group_of<'a>(kind: RecordKind, row: &'a Fields) -> Group<'a>
+    ensures kind { result.kind ≡ kind }
+    ensures market { result.market.now ≡ group_of kind row.now }
+{
+    let market = if kind == RecordKind::Holiday {
+        word(row, 1)
+    } else {
+        b""
+    };
+    Group { kind, market }
+}
+
+impl<'a> Register<'a> {
+    ghost use Rattle.std.specs.Prelude.{◌≡◌, [], ◌∷◌, ◌++◌, true, nat_lt, length, map, option_map, is_some, IfOk};
+    ghost use Rattle.std.specs.List.{list_all};
+    ghost use Rattle.core_case.specs.Kinds.{is_kind, references};
+    ghost use Rattle.core_case.specs.Faults.{filed, count_in, group_of, has_ended, is_declared, name_step, first_of, names_future, repeats, has_room, of_kind, has_limit, has_path, is_complete, book_fault, horizon_in, last_in};
+    ghost use Rattle.std.specs.Prelude.{◌≤◌, ◌<◌, ◌^◌};
+    ghost use Rattle.core_sums.specs.Places.{row_at};
+    ghost use Rattle.core_case.specs.declared.kinds.RecordKind.TheVariants.{Instrument, Scenario};
+
+    /// No record.
+    pub(crate) fn make(alloc: Global) -> Register<'a>
+        ensures { result ≡ [] }
+    {
+        Register {
+            rows: Vec::new(alloc),
+            filed: IndexMap::new(alloc),
+            counts: IndexMap::new(alloc),
+        }
+    }
+
+    /// The records with one more of this kind.
+    pub(crate) fn with(self, kind: RecordKind, row: &'a Fields) -> Result<Register<'a>, AllocError>
+        requires { is_kind kind row.now ≡ true }
+        ensures { IfOk result (λ register. register ≡ self.entry ++ (row.now ∷ [])) }
+    {
+        let Register {
+            mut rows,
+            mut filed,
+            mut counts,
+        } = self;
+        rows.push(row)?;
+        let key = key_of(kind, row);
+        if !filed.contains_key(&key) {
+            filed.insert(key, row)?;
+        }
+        let group = group_of(kind, row);
+        let count = counts.get(&group).copied().unwrap_or(0);
+        counts.insert(group, count + 1)?;
+        Ok(Register {
+            rows,
+            filed,
+            counts,
+        })
+    }
+
+    /// The records, in order.
+    pub(crate) fn rows(&self) -> &[&'a Fields]
+        ensures { map (λ r. r.now) result.now ≡ self.now }
+    {
+        &self.rows
+    }
+
+    /// How many records there are.
+    pub(crate) fn len(&self) -> usize
+        ensures { result ≡ length self.now }
+    {
+        self.rows.len()
+    }
+
+    /// The last closing day and the last house day, as the second record states them; 0 where there is none.
+    pub(crate) fn spans(&self) -> Spans
+        ensures horizon { result.horizon ≡ horizon_in self.now }
+        ensures last { result.last ≡ last_in self.now }
+        ensures horizon_bound { result.horizon < 2 ^ 63 }
+        ensures last_bound { result.last < 2 ^ 63 }
+    {
+        match self.rows.get(1) {
+            Some(house) => Spans {
+                horizon: natural_in(house, 2),
+                last: natural_in(house, 3),
+            },
+            None => Spans {
+                horizon: 0,
+                last: 0,
+            },
+        }
+    }
+
+    /// The second record, which states the days of the case.
+    pub(crate) fn house(&self) -> &'a Fields
+        requires { 2 ≤ length self.now }
+        ensures { result.now ≡ row_at self.now 1 }
+    {
+        self.rows[1]
+    }
+
+    /// The first record of a kind with this key.
+    pub(crate) fn find(&self, kind: RecordKind, first: &[u8], second: &[u8]) -> Option<&'a Fields>
+        ensures { option_map (λ r. r.now) result ≡ filed kind first.now second.now self.now }
+    {
+        self.filed
+            .get(&Key {
+                kind,
+                first,
+                second,
+            })
+            .copied()
+    }
+
+    /// Whether there is a record of a kind with this key.
+    fn has(&self, kind: RecordKind, first: &[u8], second: &[u8]) -> bool
+        ensures { result ≡ is_some (filed kind first.now second.now self.now) }
+    {
+        self.find(kind, first, second).is_some()
+    }
+
+    /// How many records there are of what a record of this kind is counted with.
+    fn count(&self, kind: RecordKind, row: &Fields) -> usize
+        ensures { result ≡ count_in kind (group_of kind row.now) self.now }
+    {
+        self.counts.get(&group_of(kind, row)).copied().unwrap_or(0)
+    }
+
+    /// Whether `end` is among the records.
+    pub(crate) fn has_ended(&self) -> bool
+        ensures { result ≡ has_ended self.now }
+    {
+        self.has(RecordKind::End, b"", b"")
+    }
+
+    /// Whether a record of a kind declares this name; `HOUSE` is a market from the start.
+    fn is_declared(&self, kind: RecordKind, name: &[u8]) -> bool
+        ensures { result ≡ is_declared self.now kind name.now }
+    {
+        (kind == RecordKind::Market && same(name, b"HOUSE")) || self.has(kind, name, b"")
+    }
+
+    /// The fault of a name that no record of a kind declares.
+    fn undeclared(&self, row: &Fields, place: usize, kind: RecordKind) -> Option<RecordFault>
+        ensures { result ≡ name_step self.now row.now (place, kind) }
+    {
+        if self.is_declared(kind, word(row, place)) {
+            None
+        } else {
+            Some(RecordFault::Undeclared)
+        }
+    }
+
+    /// The fault of the names that a record refers to.
+    #[tactic(auto, unfolding(crate::specs::Faults::first_of))]
+    fn names_fault(&self, row: &Fields, kind: RecordKind) -> Option<RecordFault>
+        ensures { result ≡ first_of (map (name_step self.now row.now) (references kind)) }
+    {
+        match kind {
+            RecordKind::Holiday => self.undeclared(row, 1, RecordKind::Market),
+            RecordKind::Instrument => self.undeclared(row, 3, RecordKind::Market),
+            RecordKind::Limit | RecordKind::Position | RecordKind::Collateral => {
+                self.undeclared(row, 1, RecordKind::Instrument)
+            }
+            RecordKind::Member => self
+                .undeclared(row, 1, RecordKind::Pool)
+                .or(self.undeclared(row, 2, RecordKind::Instrument)),
+            RecordKind::Path => self
+                .undeclared(row, 1, RecordKind::Scenario)
+                .or(self.undeclared(row, 2, RecordKind::Instrument)),
+            _ => None,
+        }
+    }
+
+    /// Whether the instrument of this name is a future.
+    fn names_future(&self, name: &[u8]) -> bool
+        ensures { result ≡ names_future self.now name.now }
+    {
+        match self.find(RecordKind::Instrument, name, b"") {
+            Some(instrument) => same(word(instrument, 2), b"future"),
+            None => false,
+        }
+    }
+
+    /// Whether a record has the key of an earlier one.
+    fn repeats(&self, row: &Fields, kind: RecordKind) -> bool
+        ensures { result ≡ repeats self.now row.now kind }
+    {
+        let key = key_of(kind, row);
+        match kind {
+            RecordKind::Core | RecordKind::House | RecordKind::End => false,
+            RecordKind::Market => {
+                same(key.first, b"HOUSE") || self.has(kind, key.first, key.second)
+            }
+            _ => self.has(kind, key.first, key.second),
+        }
+    }
+
+    /// Whether the case takes one more record of this kind.
+    fn has_room(&self, row: &Fields, kind: RecordKind) -> bool
+        ensures { result ≡ has_room self.now row.now kind }
+    {
+        match most_records(kind) {
+            Some(most) => self.count(kind, row) < most,
+            None => true,
+        }
+    }
+
+    /// Whether each instrument has a path in a scenario.
+    fn has_paths(&self, scenario: &Fields) -> bool
+        ensures { result ≡ list_all (has_path self.now scenario.now) (of_kind Instrument self.now) }
+    {
+        for row in &self.rows {
+            if is_kind(RecordKind::Instrument, row)
+                && !self.has(RecordKind::Path, word(scenario, 1), word(row, 1))
+            {
+                return false;
+            }
+        }
+        true
+    }
+
+    /// Whether each scenario has the paths of all instruments.
+    fn has_all_paths(&self) -> bool
+        ensures { result ≡ list_all (λ k. list_all (has_path self.now k) (of_kind Instrument self.now)) (of_kind Scenario self.now) }
+    {
+        for row in &self.rows {
+            if is_kind(RecordKind::Scenario, row) && !self.has_paths(row) {
+                return false;
+            }
+        }
+        true
+    }
+
+    /// Whether each instrument has limits.
+    fn has_limits(&self) -> bool
+        ensures { result ≡ list_all (has_limit self.now) (of_kind Instrument self.now) }
+    {
+        for row in &self.rows {
+            if is_kind(RecordKind::Instrument, row)
+                && !self.has(RecordKind::Limit, word(row, 1), b"")
+            {
+                return false;
+            }
+        }
+        true
+    }
+
+    /// Whether there is a scenario.
+    fn has_scenario(&self) -> bool
+        ensures { result ≡ nat_lt 0 (length (of_kind Scenario self.now)) }
+    {
+        for row in &self.rows {
+            if is_kind(RecordKind::Scenario, row) {
+                return true;
+            }
+        }
+        false
+    }
+
+    /// Whether the records are those of a whole case but for `end`.
+    fn is_complete(&self) -> bool
+        ensures { result ≡ is_complete self.now }
+    {
+        self.has_scenario() && self.has_limits() && self.has_all_paths()
+    }
+
+    /// The fault of a record of this kind among those before it.
+    #[tactic(auto, unfolding(crate::specs::Faults::first_of))]
+    pub(crate) fn book_fault(&self, row: &Fields, kind: RecordKind) -> Option<RecordFault>
+        ensures { result ≡ book_fault self.now row.now kind }
+    {
+        if let Some(fault) = self.names_fault(row, kind) {
+            return Some(fault);
+        }
+        if kind == RecordKind::Collateral && self.names_future(word(row, 1)) {
+            return Some(RecordFault::CollateralOfFuture);
+        }
+        if self.repeats(row, kind) {
+            return Some(RecordFault::Repeated);
+        }
+        if !self.has_room(row, kind) {
+            return Some(RecordFault::TooMany);
+        }
+        if kind == RecordKind::End && !self.is_complete() {
+            return Some(RecordFault::Incomplete);
+        }
+        None
+    }
+}
+
+/// How many records of a kind a case takes, of holidays how many of one market.
+fn most_records(kind: RecordKind) -> Option<usize>
+    ensures { result ≡ most_records kind }
+{
+    match kind {
+        RecordKind::Market => Some(8),
+        RecordKind::Holiday => Some(400),
+        RecordKind::Instrument => Some(32),
+        RecordKind::Pool => Some(16),
+        RecordKind::Scenario => Some(64),
+        _ => None,
+    }
+}

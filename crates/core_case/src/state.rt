@@ -1,0 +1,527 @@
+// The book that sound records state.
+ghost use Rattle.std.specs.Prelude.{◌≡◌, ◌≢◌, ◌≤◌, ◌∷◌, ◌++◌, [], map, IfOk, suc, pos};
+ghost use Rattle.std.specs.List.{All, AllPairs};
+ghost use Rattle.jiff.specs.Words.{epoch_day};
+ghost use Rattle.core_rows.specs.Fields.{IsName};
+ghost use Rattle.core_sums.specs.Places.{below};
+ghost use Rattle.core_case.specs.Inside.{book_view};
+ghost use Rattle.core_case.specs.Kept.{IsInstrument};
+ghost use Rattle.core_case.specs.Kinds.{field};
+ghost use Rattle.core_case.specs.Faults.{house_name, last_in, of_kind};
+ghost use Rattle.core_case.specs.Stated.{case_of, cash_among, declared_names, holidays_among, instrument_of_record, limits_of, line_among, line_records, market_names, member_among, names_in, numbers_from, place_of, pool_of_record, prices_of};
+ghost use Rattle.core_case.specs.Whole.{IsWhole};
+
+use crate::book::Book;
+use crate::fields::{day_in, natural_in, number_in, same, word};
+use crate::kinds::{RecordKind, is_kind};
+use crate::parts::{Instr, Kind, Line, Member, Pool, Side};
+use crate::register::Register;
+use core_rows::{Fields, Name, name_of};
+use indexmap::IndexSet;
+use jiff::civil::Date;
+use std::alloc::{AllocError, Global};
+
+/// The records of a kind, in order.
+fn of_kind<'a>(
+    alloc: Global,
+    rows: &[&'a Fields],
+    kind: RecordKind,
+) -> Result<Vec<&'a Fields>, AllocError>
+    ensures { IfOk result (λ v. map (λ r. r.now) v.items ≡ of_kind kind (map (λ r. r.now) rows.now)) }
+{
+    let mut found = Vec::new(alloc);
+    for row in rows {
+        if is_kind(kind, row) {
+            found.push(*row)?;
+        }
+    }
+    Ok(found)
+}
+
+/// The records of positions and of collateral, in order.
+fn line_records<'a>(alloc: Global, rows: &[&'a Fields]) -> Result<Vec<&'a Fields>, AllocError>
+    ensures { IfOk result (λ v. map (λ r. r.now) v.items ≡ line_records (map (λ r. r.now) rows.now)) }
+{
+    let mut found = Vec::new(alloc);
+    for row in rows {
+        if is_kind(RecordKind::Position, row) || is_kind(RecordKind::Collateral, row) {
+            found.push(*row)?;
+        }
+    }
+    Ok(found)
+}
+
+/// Names, each with its number: its place in the order of the file.
+#[derive(Drop)]
+struct NameNumbers<'a> {
+    names: IndexSet<&'a [u8]>,
+}
+
+/// The names that records declare, after these.
+fn numbered<'a>(
+    mut names: IndexSet<&'a [u8]>,
+    rows: &[&'a Fields],
+) -> Result<NameNumbers<'a>, AllocError>
+    requires { AllPairs (λ x y. x ≢ y) (map (λ k. k.now) names.keys ++ names_in (map (λ r. r.now) rows.now)) }
+    ensures { IfOk result (λ numbers. map (λ k. k.now) numbers.names.keys ≡ map (λ k. k.now) names.entry.keys ++ names_in (map (λ r. r.now) rows.now)) }
+{
+    for row in rows {
+        names.insert(word(row, 1))?;
+    }
+    Ok(NameNumbers { names })
+}
+
+/// The name of the house alone, which is market 0.
+fn house_alone<'a>(alloc: Global) -> Result<IndexSet<&'a [u8]>, AllocError>
+    ensures { IfOk result (λ names. map (λ k. k.now) names.keys ≡ house_name ∷ []) }
+{
+    let mut names = IndexSet::new(alloc);
+    let house: &[u8] = b"HOUSE";
+    names.insert(house)?;
+    Ok(names)
+}
+
+/// The number of a name, and how many names there are where it is none of them.
+fn place_of(names: &NameNumbers, name: &[u8]) -> usize
+    ensures { result ≡ place_of name.now (map (λ k. k.now) names.now.names.keys) }
+{
+    match names.names.get_index_of(name) {
+        Some(place) => place,
+        None => names.names.len(),
+    }
+}
+
+/// The numbers in the fields of a record from one on.
+fn numbers_from(alloc: Global, row: &Fields, first: usize) -> Result<Vec<i64>, AllocError>
+    ensures { IfOk result (λ v. v.items ≡ numbers_from first row.now) }
+{
+    let mut numbers = Vec::new(alloc);
+    for i in first..row.len() {
+        numbers.push(number_in(row, i))?;
+    }
+    Ok(numbers)
+}
+
+/// The limits of an instrument, none where no record states them.
+fn limits_of(
+    alloc: Global,
+    register: &Register,
+    instrument: &Fields,
+) -> Result<Vec<i64>, AllocError>
+    ensures { IfOk result (λ v. v.items ≡ limits_of register.now (field instrument.now 1)) }
+{
+    match register.find(RecordKind::Limit, word(instrument, 1), b"") {
+        Some(row) => numbers_from(alloc, row, 2),
+        None => Ok(Vec::new(alloc)),
+    }
+}
+
+/// The prices of an instrument in a scenario, none where no record states them.
+fn prices_of(
+    alloc: Global,
+    register: &Register,
+    scenario: &Fields,
+    instrument: &Fields,
+) -> Result<Vec<i64>, AllocError>
+    ensures { IfOk result (λ v. v.items ≡ prices_of register.now (field scenario.now 1) (field instrument.now 1)) }
+{
+    match register.find(RecordKind::Path, word(scenario, 1), word(instrument, 1)) {
+        Some(row) => numbers_from(alloc, row, 3),
+        None => Ok(Vec::new(alloc)),
+    }
+}
+
+/// The holidays of a market, in order.
+fn holidays_of(alloc: Global, holidays: &[&Fields], market: &[u8]) -> Result<Vec<Date>, AllocError>
+    ensures { IfOk result (λ v. map epoch_day v.items ≡ holidays_among (map (λ r. r.now) holidays.now) market.now) }
+{
+    let mut found = Vec::new(alloc);
+    for row in holidays {
+        if same(word(row, 1), market) {
+            found.push(day_in(row, 2))?;
+        }
+    }
+    Ok(found)
+}
+
+/// The holidays of the house and of each market.
+fn holidays(
+    alloc: Global,
+    holidays: &[&Fields],
+    markets: &[&Fields],
+) -> Result<Vec<Vec<Date>>, AllocError>
+    ensures { IfOk result (λ v. map (λ days. map epoch_day days.items) v.items ≡ map (holidays_among (map (λ r. r.now) holidays.now)) (house_name ∷ names_in (map (λ r. r.now) markets.now))) }
+{
+    let mut all = Vec::new(alloc);
+    all.push(holidays_of(alloc, holidays, b"HOUSE")?)?;
+    for market in markets {
+        all.push(holidays_of(alloc, holidays, word(market, 1))?)?;
+    }
+    Ok(all)
+}
+
+/// The name in a field.
+fn name_in(row: &Fields, i: usize) -> Name
+    requires { IsName (field row.now i) }
+    ensures { result ≡ field row.now i }
+{
+    name_of(word(row, i)).unwrap()
+}
+
+/// The instrument that a record states.
+fn instrument(row: &Fields) -> Instr
+    requires { IsInstrument (instrument_of_record row.now) }
+    ensures { result ≡ instrument_of_record row.now }
+{
+    Instr {
+        name: name_in(row, 1),
+        kind: if same(word(row, 2), b"future") {
+            Kind::Future
+        } else {
+            Kind::Security
+        },
+        mult: number_in(row, 4),
+        delay: natural_in(row, 5) as u8,
+        lag: natural_in(row, 6) as u8,
+    }
+}
+
+/// The instruments that records state, in order.
+fn instruments(alloc: Global, rows: &[&Fields]) -> Result<Vec<Instr>, AllocError>
+    requires { All IsInstrument (map instrument_of_record (map (λ r. r.now) rows.now)) }
+    ensures { IfOk result (λ v. v.items ≡ map instrument_of_record (map (λ r. r.now) rows.now)) }
+{
+    let mut instruments = Vec::with_capacity(alloc, rows.len())?;
+    for row in rows {
+        instruments.push(instrument(row))?;
+    }
+    Ok(instruments)
+}
+
+/// The market of each instrument.
+fn markets(alloc: Global, rows: &[&Fields], markets: &NameNumbers) -> Result<Vec<usize>, AllocError>
+    ensures { IfOk result (λ v. v.items ≡ map (λ r. place_of (field r 3) (map (λ k. k.now) markets.now.names.keys)) (map (λ r. r.now) rows.now)) }
+{
+    let mut places = Vec::with_capacity(alloc, rows.len())?;
+    for row in rows {
+        places.push(place_of(markets, word(row, 3)))?;
+    }
+    Ok(places)
+}
+
+/// The limits of each instrument.
+fn limits(
+    alloc: Global,
+    register: &Register,
+    instruments: &[&Fields],
+) -> Result<Vec<Vec<i64>>, AllocError>
+    ensures { IfOk result (λ v. map (λ limits. limits.items) v.items ≡ map (limits_of register.now) (names_in (map (λ r. r.now) instruments.now))) }
+{
+    let mut limits = Vec::with_capacity(alloc, instruments.len())?;
+    for row in instruments {
+        limits.push(limits_of(alloc, register, row)?)?;
+    }
+    Ok(limits)
+}
+
+/// The prices of each instrument in a scenario.
+fn paths(
+    alloc: Global,
+    register: &Register,
+    scenario: &Fields,
+    instruments: &[&Fields],
+) -> Result<Vec<Vec<i64>>, AllocError>
+    ensures { IfOk result (λ v. map (λ path. path.items) v.items ≡ map (prices_of register.now (field scenario.now 1)) (names_in (map (λ r. r.now) instruments.now))) }
+{
+    let mut paths = Vec::with_capacity(alloc, instruments.len())?;
+    for row in instruments {
+        paths.push(prices_of(alloc, register, scenario, row)?)?;
+    }
+    Ok(paths)
+}
+
+/// The prices of each scenario and instrument.
+fn prices(
+    alloc: Global,
+    register: &Register,
+    scenarios: &[&Fields],
+    instruments: &[&Fields],
+) -> Result<Vec<Vec<Vec<i64>>>, AllocError>
+    ensures { IfOk result (λ v. map (λ paths. map (λ path. path.items) paths.items) v.items ≡ map (λ k. map (prices_of register.now k) (names_in (map (λ r. r.now) instruments.now))) (names_in (map (λ r. r.now) scenarios.now))) }
+{
+    let mut prices = Vec::with_capacity(alloc, scenarios.len())?;
+    for row in scenarios {
+        prices.push(paths(alloc, register, row, instruments)?)?;
+    }
+    Ok(prices)
+}
+
+/// The pool that a record states.
+fn pool(row: &Fields) -> Pool
+    requires { IsName (field row.now 1) }
+    ensures { result ≡ pool_of_record row.now }
+{
+    Pool {
+        name: name_in(row, 1),
+        cap: number_in(row, 2),
+    }
+}
+
+/// The pools that records state, in order.
+fn pools(alloc: Global, rows: &[&Fields]) -> Result<Vec<Pool>, AllocError>
+    requires { All (λ r. IsName (field r 1)) (map (λ r. r.now) rows.now) }
+    ensures { IfOk result (λ v. v.items ≡ map pool_of_record (map (λ r. r.now) rows.now)) }
+{
+    let mut pools = Vec::with_capacity(alloc, rows.len())?;
+    for row in rows {
+        pools.push(pool(row))?;
+    }
+    Ok(pools)
+}
+
+/// The member that a record states.
+fn member(row: &Fields, pools: &NameNumbers, instruments: &NameNumbers) -> Member
+    ensures { result ≡ member_among (map (λ k. k.now) pools.now.names.keys) (map (λ k. k.now) instruments.now.names.keys) row.now }
+{
+    Member {
+        pool: place_of(pools, word(row, 1)),
+        instrument: place_of(instruments, word(row, 2)),
+        weight: number_in(row, 3),
+    }
+}
+
+/// The members that records state, in order.
+fn members(
+    alloc: Global,
+    rows: &[&Fields],
+    pools: &NameNumbers,
+    instruments: &NameNumbers,
+) -> Result<Vec<Member>, AllocError>
+    ensures { IfOk result (λ v. v.items ≡ map (member_among (map (λ k. k.now) pools.now.names.keys) (map (λ k. k.now) instruments.now.names.keys)) (map (λ r. r.now) rows.now)) }
+{
+    let mut members = Vec::with_capacity(alloc, rows.len())?;
+    for row in rows {
+        members.push(member(row, pools, instruments))?;
+    }
+    Ok(members)
+}
+
+/// The names of the scenarios that records declare, in order.
+fn scenarios(alloc: Global, rows: &[&Fields]) -> Result<Vec<Name>, AllocError>
+    requires { All (λ r. IsName (field r 1)) (map (λ r. r.now) rows.now) }
+    ensures { IfOk result (λ v. v.items ≡ names_in (map (λ r. r.now) rows.now)) }
+{
+    let mut scenarios = Vec::with_capacity(alloc, rows.len())?;
+    for row in rows {
+        scenarios.push(name_in(row, 1))?;
+    }
+    Ok(scenarios)
+}
+
+/// The line that a record of a position or of collateral states.
+fn line(row: &Fields, instruments: &NameNumbers) -> Line
+    ensures { result ≡ line_among (map (λ k. k.now) instruments.now.names.keys) row.now }
+{
+    let number = number_in(row, 2);
+    Line {
+        instrument: place_of(instruments, word(row, 1)),
+        side: if is_kind(RecordKind::Position, row) {
+            Side::Position
+        } else {
+            Side::Collateral
+        },
+        sign: if number > 0 { 1 } else { -1 },
+        amount: natural_in(row, 2) as i64,
+    }
+}
+
+/// The lines that records state, in order.
+fn lines(
+    alloc: Global,
+    rows: &[&Fields],
+    instruments: &NameNumbers,
+) -> Result<Vec<Line>, AllocError>
+    ensures { IfOk result (λ v. v.items ≡ map (line_among (map (λ k. k.now) instruments.now.names.keys)) (map (λ r. r.now) rows.now)) }
+{
+    let mut lines = Vec::with_capacity(alloc, rows.len())?;
+    for row in rows {
+        lines.push(line(row, instruments))?;
+    }
+    Ok(lines)
+}
+
+/// The fixed cash of a day, 0 where no record states it.
+fn cash_on(rows: &[&Fields], day: i64) -> i64
+    ensures { result ≡ cash_among (map (λ r. r.now) rows.now) day }
+{
+    for row in rows {
+        if number_in(row, 1) == day {
+            return number_in(row, 2);
+        }
+    }
+    0
+}
+
+/// The fixed cash of the house days 0 to the last.
+fn cash(alloc: Global, rows: &[&Fields], last: u8) -> Result<Vec<i64>, AllocError>
+    ensures { IfOk result (λ v. v.items ≡ map (λ t. cash_among (map (λ r. r.now) rows.now) (pos t)) (below (suc last))) }
+{
+    let mut cash = Vec::with_capacity(alloc, last as usize + 1)?;
+    for t in 0..last as usize + 1 {
+        cash.push(cash_on(rows, t as i64))?;
+    }
+    Ok(cash)
+}
+
+/// The records of a kind in a register, in order.
+fn rows_of_kind<'a>(
+    alloc: Global,
+    register: &Register<'a>,
+    kind: RecordKind,
+) -> Result<Vec<&'a Fields>, AllocError>
+    ensures { IfOk result (λ v. map (λ r. r.now) v.items ≡ of_kind kind register.now) }
+{
+    of_kind(alloc, register.rows(), kind)
+}
+
+/// The names that the records of a kind declare, each with its number.
+fn names_of_kind<'a>(
+    alloc: Global,
+    register: &Register<'a>,
+    kind: RecordKind,
+) -> Result<NameNumbers<'a>, AllocError>
+    requires { AllPairs (λ x y. x ≢ y) (declared_names kind register.now) }
+    ensures { IfOk result (λ numbers. map (λ k. k.now) numbers.names.keys ≡ declared_names kind register.now) }
+{
+    let rows = rows_of_kind(alloc, register, kind)?;
+    numbered(IndexSet::new(alloc), &rows)
+}
+
+/// The names of the house and of the markets, each with its number.
+fn names_of_markets<'a>(
+    alloc: Global,
+    register: &Register<'a>,
+) -> Result<NameNumbers<'a>, AllocError>
+    requires { AllPairs (λ x y. x ≢ y) (market_names register.now) }
+    ensures { IfOk result (λ numbers. map (λ k. k.now) numbers.names.keys ≡ market_names register.now) }
+{
+    let rows = rows_of_kind(alloc, register, RecordKind::Market)?;
+    numbered(house_alone(alloc)?, &rows)
+}
+
+/// The holidays of the house and of each market of a register.
+fn book_holidays(alloc: Global, register: &Register) -> Result<Vec<Vec<Date>>, AllocError>
+    ensures { IfOk result (λ v. map (λ days. map epoch_day days.items) v.items ≡ (case_of register.now).holidays) }
+{
+    let holiday_rows = rows_of_kind(alloc, register, RecordKind::Holiday)?;
+    let market_rows = rows_of_kind(alloc, register, RecordKind::Market)?;
+    holidays(alloc, &holiday_rows, &market_rows)
+}
+
+/// The instruments of a register.
+fn book_instruments(alloc: Global, register: &Register) -> Result<Vec<Instr>, AllocError>
+    requires { IsWhole register.now }
+    ensures { IfOk result (λ v. v.items ≡ (case_of register.now).instruments) }
+{
+    let rows = rows_of_kind(alloc, register, RecordKind::Instrument)?;
+    instruments(alloc, &rows)
+}
+
+/// The market of each instrument of a register.
+fn book_markets(alloc: Global, register: &Register) -> Result<Vec<usize>, AllocError>
+    requires { IsWhole register.now }
+    ensures { IfOk result (λ v. v.items ≡ (case_of register.now).markets) }
+{
+    let rows = rows_of_kind(alloc, register, RecordKind::Instrument)?;
+    let names = names_of_markets(alloc, register)?;
+    markets(alloc, &rows, &names)
+}
+
+/// The limits of each instrument of a register.
+fn book_limits(alloc: Global, register: &Register) -> Result<Vec<Vec<i64>>, AllocError>
+    ensures { IfOk result (λ v. map (λ limits. limits.items) v.items ≡ (case_of register.now).limits) }
+{
+    let rows = rows_of_kind(alloc, register, RecordKind::Instrument)?;
+    limits(alloc, register, &rows)
+}
+
+/// The pools of a register.
+fn book_pools(alloc: Global, register: &Register) -> Result<Vec<Pool>, AllocError>
+    requires { IsWhole register.now }
+    ensures { IfOk result (λ v. v.items ≡ (case_of register.now).pools) }
+{
+    let rows = rows_of_kind(alloc, register, RecordKind::Pool)?;
+    pools(alloc, &rows)
+}
+
+/// The members of the pools of a register.
+fn book_members(alloc: Global, register: &Register) -> Result<Vec<Member>, AllocError>
+    requires { IsWhole register.now }
+    ensures { IfOk result (λ v. v.items ≡ (case_of register.now).members) }
+{
+    let rows = rows_of_kind(alloc, register, RecordKind::Member)?;
+    let pools = names_of_kind(alloc, register, RecordKind::Pool)?;
+    let instruments = names_of_kind(alloc, register, RecordKind::Instrument)?;
+    members(alloc, &rows, &pools, &instruments)
+}
+
+/// The names of the scenarios of a register.
+fn book_scenarios(alloc: Global, register: &Register) -> Result<Vec<Name>, AllocError>
+    requires { IsWhole register.now }
+    ensures { IfOk result (λ v. v.items ≡ (case_of register.now).scenarios) }
+{
+    let rows = rows_of_kind(alloc, register, RecordKind::Scenario)?;
+    scenarios(alloc, &rows)
+}
+
+/// The prices of each scenario and instrument of a register.
+fn book_prices(alloc: Global, register: &Register) -> Result<Vec<Vec<Vec<i64>>>, AllocError>
+    ensures { IfOk result (λ v. map (λ paths. map (λ path. path.items) paths.items) v.items ≡ (case_of register.now).prices) }
+{
+    let scenario_rows = rows_of_kind(alloc, register, RecordKind::Scenario)?;
+    let instrument_rows = rows_of_kind(alloc, register, RecordKind::Instrument)?;
+    prices(alloc, register, &scenario_rows, &instrument_rows)
+}
+
+/// The lines of a register.
+fn book_lines(alloc: Global, register: &Register) -> Result<Vec<Line>, AllocError>
+    requires { IsWhole register.now }
+    ensures { IfOk result (λ v. v.items ≡ (case_of register.now).lines) }
+{
+    let rows = line_records(alloc, register.rows())?;
+    let instruments = names_of_kind(alloc, register, RecordKind::Instrument)?;
+    lines(alloc, &rows, &instruments)
+}
+
+/// The fixed cash of the house days of a register, 0 to the last.
+fn book_cash(alloc: Global, register: &Register, last: u8) -> Result<Vec<i64>, AllocError>
+    requires { last ≡ last_in register.now }
+    ensures { IfOk result (λ v. v.items ≡ (case_of register.now).cash) }
+{
+    let rows = rows_of_kind(alloc, register, RecordKind::Cash)?;
+    cash(alloc, &rows, last)
+}
+
+/// The book that the records of a register state.
+pub(crate) fn state_book(alloc: Global, register: &Register) -> Result<Book, AllocError>
+    requires { IsWhole register.now }
+    ensures { IfOk result (λ book. book_view book ≡ case_of register.now) }
+{
+    let house = register.house();
+    let last = natural_in(house, 3) as u8;
+    Ok(Book {
+        start: day_in(house, 1),
+        horizon: natural_in(house, 2) as u8,
+        last,
+        holidays: book_holidays(alloc, register)?,
+        instruments: book_instruments(alloc, register)?,
+        markets: book_markets(alloc, register)?,
+        limits: book_limits(alloc, register)?,
+        pools: book_pools(alloc, register)?,
+        members: book_members(alloc, register)?,
+        scenarios: book_scenarios(alloc, register)?,
+        prices: book_prices(alloc, register)?,
+        lines: book_lines(alloc, register)?,
+        cash: book_cash(alloc, register, last)?,
+    })
+}
