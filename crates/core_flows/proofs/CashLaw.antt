@@ -73,7 +73,7 @@ flow_by-units c d a k l w Security full =
     security-sum c.horizon w (size c l *ℤ price c k (instrument_of c l) (suc w)) (λ j. a l (suc j)) (nat_le (suc w) c.horizon) refl
 
 -- what a unit pays is its flows that are paid
-unit-is : (c : CaseView) (l k u t : ℕ)
+pub unit-is : (c : CaseView) (l k u t : ℕ)
     → unit c l k u t ≡ sum_days c.last (λ v. if is_paid_by c l v t then flow (alone c l) (pos 1) (one_on u) k 0 v else pos 0)
 unfolding sum_below
 unit-is c l k u t =

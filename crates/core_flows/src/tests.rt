@@ -1,0 +1,99 @@
+ghost use Rattle.std.specs.Prelude.{◌≡◌};
+
+use super::{Flows, law_of_units};
+use core_case::{Case, read_case};
+use std::test::Fail;
+
+/// A long future whose price dips on day 1, marked a day later.
+const DIPPING: &str =
+    "core,1\nhouse,2024-01-01,2,3\nmarket,MKT\ninstr,IND,future,MKT,1,1,1\nlimit,IND,10,10\n\
+    scenario,DIP\npath,DIP,IND,100,90,105,105\nposition,IND,20\nend\n";
+
+/// A short future whose market is closed on day 2, 2024-01-03.
+const INTERRUPTED: &str = "core,1\nhouse,2024-01-01,3,4\nmarket,MKT\nholiday,MKT,2024-01-03\n\
+    instr,IND,future,MKT,2,1,1\nlimit,IND,10,10,10\nscenario,DOWN\npath,DOWN,IND,100,90,80,70,60\n\
+    position,IND,-20\nend\n";
+
+/// A short security beside fixed cash of the days 0 and 2.
+const SHORT: &str =
+    "core,1\nhouse,2024-01-01,2,3\nmarket,MKT\ninstr,BND,security,MKT,3,1,1\nlimit,BND,10,10\n\
+    scenario,UP\npath,UP,BND,100,110,120,130\nposition,BND,-5\ncash,0,7\ncash,2,-4\nend\n";
+
+/// What one unit of the first line pays in the first scenario, where its closing is allowed.
+fn first_unit(case: &Case, flows: &Flows, closed: u8, day: u8) -> Option<i128>
+    requires { flows.now ≡ case.now }
+{
+    if case.lines() > 0
+        && case.scenarios() > 0
+        && closed <= case.last()
+        && day <= case.last()
+        && case.allowed(0, closed)
+    {
+        Some(flows.unit(0, 0, closed, day))
+    } else {
+        None
+    }
+}
+
+/// The fixed cash up to a house day.
+fn fixed_to(case: &Case, flows: &Flows, day: u8) -> Option<i128>
+    requires { flows.now ≡ case.now }
+{
+    if day <= case.last() {
+        Some(flows.fixed(day))
+    } else {
+        None
+    }
+}
+
+#[test]
+fn a_future_is_marked_up_to_the_last_price_that_is_paid(rt: HostRuntime) -> Result<(), Fail> {
+    let case = read_case(rt.alloc(), DIPPING.as_bytes())?;
+    let flows = Flows::make(rt.alloc(), &case)?;
+    for (closed, day, paid) in [
+        (1, 1, 0),
+        (1, 2, -10),
+        (1, 3, -10),
+        (2, 1, 0),
+        (2, 2, -10),
+        (2, 3, 5),
+    ] {
+        let unit = first_unit(&case, &flows, closed, day);
+        assert_eq!(rt; unit, Some(paid), "closed on {closed}, by {day}");
+    }
+    Ok(())
+}
+
+#[test]
+fn a_holiday_delays_what_is_paid(rt: HostRuntime) -> Result<(), Fail> {
+    let case = read_case(rt.alloc(), INTERRUPTED.as_bytes())?;
+    let flows = Flows::make(rt.alloc(), &case)?;
+    for (closed, day, paid) in [(1, 2, 0), (1, 3, 20), (1, 4, 20), (3, 3, 20), (3, 4, 60)] {
+        let unit = first_unit(&case, &flows, closed, day);
+        assert_eq!(rt; unit, Some(paid), "closed on {closed}, by {day}");
+    }
+    assert_eq!(rt; first_unit(&case, &flows, 2, 4), None);
+    Ok(())
+}
+
+#[test]
+fn a_security_sells_at_the_price_of_its_closing(rt: HostRuntime) -> Result<(), Fail> {
+    let case = read_case(rt.alloc(), SHORT.as_bytes())?;
+    let flows = Flows::make(rt.alloc(), &case)?;
+    for (closed, day, paid) in [(1, 1, 0), (1, 2, -330), (2, 2, 0), (2, 3, -360)] {
+        let unit = first_unit(&case, &flows, closed, day);
+        assert_eq!(rt; unit, Some(paid), "closed on {closed}, by {day}");
+    }
+    Ok(())
+}
+
+#[test]
+fn fixed_cash_adds_up(rt: HostRuntime) -> Result<(), Fail> {
+    let case = read_case(rt.alloc(), SHORT.as_bytes())?;
+    let flows = Flows::make(rt.alloc(), &case)?;
+    for (day, sum) in [(0, 7), (1, 7), (2, 3), (3, 3)] {
+        assert_eq!(rt; fixed_to(&case, &flows, day), Some(sum), "day {day}");
+    }
+    law_of_units();
+    Ok(())
+}
