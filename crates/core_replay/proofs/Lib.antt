@@ -1,0 +1,10 @@
+pub mod Sizes
+pub mod Leaving
+pub mod Sums
+pub mod Flows
+pub mod Dues
+pub mod Totals
+pub mod Standing
+pub mod Running
+pub mod FirstWorst
+pub mod Rows

@@ -1,0 +1,137 @@
+-- A replay from day to day.
+use Rattle.std.proofs.Common.{◌≡◌, refl, sym, ◌∙◌, ap, subst, ℕ, zero, suc, ◌-◌, ◌<◌, ◌≤◌, ◌⊎◌, inl, inr, arith, ℤ, pos, ◌*ℤ◌, Bool, true, false, ◌||◌, List, [], ◌∷◌, ◌++◌, length, replicate, slice_set, length-set}
+use Rattle.std.proofs.lemmas.List.{get_or-set_same, get_or-set_other, length-replicate}
+use Rattle.std.proofs.lemmas.Bool.{cases_lt}
+use Rattle.core_sums.specs.Sums.{sum_below}
+use Rattle.core_sums.specs.Places.{at, row_at}
+use Rattle.core_sums.specs.Widths.{any_leaves, leaves, most}
+use Rattle.core_case.specs.View.{CaseView, cash, instrument_of}
+use Rattle.core_model.specs.Closing.{Amounts, cash_of}
+use Rattle.core_replay.specs.Ledger.{paid_on, opening_numbers, lines_numbers, paid_numbers, day_leaves, flows_until}
+use Rattle.core_replay.specs.Steps.{AreStanding, AreDue, sum_numbers, later_numbers}
+use Rattle.core_replay.specs.Answers.{AreByDay, StopsOn, StopsReplay}
+use Rattle.core_replay.specs.Runs.{AreEntered}
+use Rattle.core_replay.specs.declared.fault.ReplayFault.{ReplayFault}
+use Rattle.core_replay.specs.declared.fault.ReplayFault.TheVariants.{TooWide, NoMemory}
+use Rattle.core_replay.proofs.Leaving.{none-append, left-leaves, right-leaves, rest-leaves}
+use Rattle.std.proofs.lemmas.List.Folds.{list_any-append}
+use Rattle.core_replay.specs.declared.lines.Standing.{Standing}
+use Rattle.core_replay.proofs.Flows.{day_before-first, day_before-second}
+use Rattle.core_replay.proofs.Totals.{cash-more}
+use Rattle.core_replay.proofs.Dues.{due-at}
+
+-- one more day is entered
+pub entered-none : (c : CaseView) (f : ℕ → ℤ) (n : ℕ) (xs : List ℤ) → n ≡ suc c.last → xs ≡ replicate n (pos 0) → AreEntered c f 0 xs
+entered-none c f n xs long e = record { count = ap length e ∙ length-replicate n (pos 0) ∙ long; entered = λ s under. absurd (omega (arith, under)) }
+
+pub entered-more : (c : CaseView) (f : ℕ → ℤ) (t : ℕ) (xs : List ℤ) (z : ℤ) → t ≤ c.last → z ≡ f t → AreEntered c f t xs → AreEntered c f (suc t) (slice_set xs t z)
+entered-more c f t xs z within e before = record { count = length-set xs t z ∙ before.count; entered = λ s under. at_day s under (cases_lt s t) }
+  where
+    at_day : (s : ℕ) → s < suc t → (s < t) ⊎ (t ≤ s) → at (slice_set xs t z) s ≡ f s
+    at_day s under (inl lower) = get_or-set_other xs t s z (pos 0) (λ q. omega (arith, q, lower)) ∙ before.entered s lower
+    at_day s under (inr high) =
+        let same : t ≡ s = omega (arith, under, high) in
+        subst (λ (r : ℕ). at (slice_set xs t z) r ≡ f r) same (get_or-set_same xs t z (pos 0) (omega (arith, within, before.count)) ∙ e)
+
+pub entered-all : (c : CaseView) (f : ℕ → ℤ) (n : ℕ) (xs : List ℤ) → n ≡ suc c.last → AreEntered c f n xs → AreByDay c f xs
+entered-all c f n xs e all = record { count = all.count; each = λ t within. all.entered t (omega (arith, e, within)) }
+
+-- the next day's total before it
+pub total-more : (c : CaseView) (d : ℤ) (a : Amounts) (k t : ℕ) (z : ℤ) → z ≡ cash_of c d a k t → z ≡ sum_below (suc t) (paid_on c d a k)
+unfolding sum_below
+total-more c d a k t z e = e ∙ cash-more c d a k t
+
+pub total-none : (f : ℕ → ℤ) (z : ℤ) → z ≡ pos 0 → z ≡ sum_below 0 f
+unfolding sum_below
+total-none f z e = e
+
+-- what is due when a day's lines are done
+pub due-now : (c : CaseView) (d : ℤ) (a : Amounts) (k t : ℕ) (due : List (List ℤ)) → t ≤ c.last → AreDue c d a k t 0 due → row_at due t ≡ flows_until c d a k t t
+due-now c d a k t due within before = due-at c d a k t t due within before
+
+pub due-first : (c : CaseView) (d : ℤ) (a : Amounts) (k t : ℕ) (due : List (List ℤ)) → t ≡ 0 → AreDue c d a k (t - 1) 0 due → AreDue c d a k t 0 due
+due-first c d a k zero due e before = subst (λ (n : ℕ). AreDue c d a k n 0 due) (omega arith) before
+due-first c d a k (suc t) due e before = absurd (omega (arith, e))
+
+pub due-next : (c : CaseView) (d : ℤ) (a : Amounts) (k t : ℕ) (due : List (List ℤ)) → AreDue c d a k t 0 due → AreDue c d a k (suc t - 1) 0 due
+due-next c d a k t due before = let e : t ≡ suc t - 1 = omega arith in subst (λ (n : ℕ). AreDue c d a k n 0 due) e before
+
+-- the lines before day 0 stand as before day 1, since day 0 has no closing
+pub standing-first : (c : CaseView) (d : ℤ) (a : Amounts) (t : ℕ) (xs : List Standing) → t ≡ 0 → AreStanding c d a t 0 xs → AreStanding c d a (suc t) 0 xs
+standing-first c d a (suc t) xs e before = absurd (omega (arith, e))
+standing-first c d a zero xs e before = record {
+  count = before.count;
+  gone = λ l under below. absurd (omega (arith, under));
+  to_go = λ l from below.
+      let here = before.to_go l from below in
+      record { open_is = here.open_is; marked = here.marked ∙ day_before-first c (instrument_of c l) ∙ sym (day_before-second c (instrument_of c l)) };
+}
+
+-- the numbers of a day, part by part
+or-between : (a b r : Bool) → b ≡ false → (a || r) ≡ false → (a || (b || r)) ≡ false
+or-between true b r e f = f
+or-between false b r e f = ap (λ b. b || r) e ∙ f
+
+or-more : (a b r : Bool) → (a || r) ≡ true → (a || (b || r)) ≡ true
+or-more true b r e = refl
+or-more false true r e = refl
+or-more false false r e = e
+
+pub later-stay : (c : CaseView) (d : ℤ) (a : Amounts) (k t : ℕ) → any_leaves (lines_numbers c d a k t) ≡ false → any_leaves (sum_numbers c d a k t) ≡ false
+    → any_leaves (later_numbers c d a k t) ≡ false
+later-stay c d a k t lines sums =
+    ap (λ b. leaves most (d *ℤ cash c t) || b) (list_any-append (leaves most) (lines_numbers c d a k t) (paid_numbers c d a k t ++ (cash_of c d a k t ∷ [])))
+    ∙ or-between (leaves most (d *ℤ cash c t)) (any_leaves (lines_numbers c d a k t)) (any_leaves (paid_numbers c d a k t ++ (cash_of c d a k t ∷ []))) lines sums
+
+pub lines-leave-later : (c : CaseView) (d : ℤ) (a : Amounts) (k t : ℕ) → any_leaves (lines_numbers c d a k t) ≡ true → any_leaves (later_numbers c d a k t) ≡ true
+lines-leave-later c d a k t out =
+    rest-leaves (d *ℤ cash c t) (lines_numbers c d a k t ++ (paid_numbers c d a k t ++ (cash_of c d a k t ∷ [])))
+    (left-leaves (lines_numbers c d a k t) (paid_numbers c d a k t ++ (cash_of c d a k t ∷ [])) out)
+
+pub sums-leave-later : (c : CaseView) (d : ℤ) (a : Amounts) (k t : ℕ) → any_leaves (sum_numbers c d a k t) ≡ true → any_leaves (later_numbers c d a k t) ≡ true
+sums-leave-later c d a k t out =
+    ap (λ b. leaves most (d *ℤ cash c t) || b) (list_any-append (leaves most) (lines_numbers c d a k t) (paid_numbers c d a k t ++ (cash_of c d a k t ∷ [])))
+    ∙ or-more (leaves most (d *ℤ cash c t)) (any_leaves (lines_numbers c d a k t)) (any_leaves (paid_numbers c d a k t ++ (cash_of c d a k t ∷ []))) out
+
+pub no-lines : (c : CaseView) (d : ℤ) (a : Amounts) (k t : ℕ) → t ≡ 0 → any_leaves (lines_numbers c d a k t) ≡ false
+no-lines c d a k zero e = refl
+no-lines c d a k (suc t) e = absurd (omega (arith, e))
+
+pub day-stays : (c : CaseView) (d : ℤ) (a : Amounts) (k t : ℕ) → any_leaves (opening_numbers c d 0) ≡ false → any_leaves (later_numbers c d a k t) ≡ false → day_leaves c d a k t ≡ false
+day-stays c d a k zero opening later = none-append (opening_numbers c d 0) (later_numbers c d a k 0) opening later
+day-stays c d a k (suc t) opening later = later
+
+pub later-leaves-day : (c : CaseView) (d : ℤ) (a : Amounts) (k t : ℕ) → any_leaves (later_numbers c d a k t) ≡ true → day_leaves c d a k t ≡ true
+later-leaves-day c d a k t out = right-leaves (opening_numbers c d t) (later_numbers c d a k t) out
+
+pub opening-leaves-day : (c : CaseView) (d : ℤ) (a : Amounts) (k : ℕ) → any_leaves (opening_numbers c d 0) ≡ true → day_leaves c d a k 0 ≡ true
+opening-leaves-day c d a k out = left-leaves (opening_numbers c d 0) (later_numbers c d a k 0) out
+
+-- a fault of a day is one of the replay
+pub stops-day : (c : CaseView) (d : ℤ) (a : Amounts) (k t : ℕ) (fault : ReplayFault) → t ≤ c.last → ((s : ℕ) → s < t → day_leaves c d a k s ≡ false)
+    → StopsOn k t (later_numbers c d a k t) fault → StopsReplay c d a k fault
+stops-day c d a k t (TooWide scenario day) within earlier stops = (
+  stops.0,
+  record {
+    within = omega (arith, stops.1, within);
+    earlier_days = λ s under. earlier s (omega (arith, stops.1, under));
+    leaving = ap (day_leaves c d a k) stops.1 ∙ later-leaves-day c d a k t stops.2;
+  },
+)
+stops-day c d a k t NoMemory within earlier stops = tt
+
+pub stops-opening : (c : CaseView) (d : ℤ) (a : Amounts) (k : ℕ) (fault : ReplayFault) → StopsOn k 0 (opening_numbers c d 0) fault → StopsReplay c d a k fault
+stops-opening c d a k (TooWide scenario day) stops = (
+  stops.0,
+  record {
+    within = omega (arith, stops.1);
+    earlier_days = λ s under. absurd (omega (arith, stops.1, under));
+    leaving = ap (day_leaves c d a k) stops.1 ∙ opening-leaves-day c d a k stops.2;
+  },
+)
+stops-opening c d a k NoMemory stops = tt
+
+-- a fault of a day's lines is one of the day
+pub stops-lines : (c : CaseView) (d : ℤ) (a : Amounts) (k t : ℕ) (fault : ReplayFault) → StopsOn k t (lines_numbers c d a k t) fault → StopsOn k t (later_numbers c d a k t) fault
+stops-lines c d a k t (TooWide scenario day) stops = (stops.0, stops.1, lines-leave-later c d a k t stops.2)
+stops-lines c d a k t NoMemory stops = tt

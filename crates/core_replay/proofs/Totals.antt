@@ -1,0 +1,121 @@
+-- What is paid on a day, and the cash of the days up to it.
+use Rattle.std.proofs.Common.{◌≡◌, refl, sym, ◌∙◌, ap, subst, ℕ, zero, suc, ◌<◌, ◌≤◌, ◌⊎◌, inl, inr, arith, ℤ, pos, ◌+ℤ◌, ◌*ℤ◌, true, false, ◌==◌, nat_le, List, [], ◌∷◌, ◌++◌, Option, Some, None, if◌then◌else◌}
+use Rattle.std.proofs.lemmas.Bool.{cases_lt, eq-eqb, ne_eqb, le-leb, lt-leb}
+use Rattle.core_sums.specs.Sums.{sum_below, sum_days, total, partial_sums}
+use Rattle.core_sums.specs.Places.{below}
+use Rattle.core_sums.proofs.SumLaws.{sum_below-cong, sum_below-none, sum_below-plus, sum_below-scale, sum_below-swap, sum_below-cut, sum_below-single}
+use Rattle.core_sums.proofs.Lists.{total-append, total-filter, total-below}
+use Rattle.core_case.specs.View.{CaseView, instrument_of, cash, pays}
+use Rattle.core_model.specs.Closing.{Amounts, line_count, flow, fixed, is_by, is_paid_by, cash_of}
+use Rattle.core_replay.specs.Ledger.{is_on, is_paid_on, paid_on, flows_of_day, flows_until, paid_numbers}
+use Rattle.core_sums.specs.Widths.{any_leaves}
+use Rattle.core_replay.specs.Steps.{Leaves, Stays, sum_numbers}
+use Rattle.core_replay.proofs.Leaving.{each-days_to-more, none-append, none-cons, none-one, left-leaves, right-leaves, rest-leaves, first-leaves}
+use Rattle.core_replay.proofs.Dues.{pays-within, flows_until-none}
+
+-- the flow of a line on a day where it is paid on day t, else nought
+abbrev due_flow : CaseView → ℤ → Amounts → ℕ → ℕ → ℕ → ℕ → ℤ
+due_flow c d a k t v l = if is_paid_on c v t l then flow c d a k l v else pos 0
+
+day-total : (c : CaseView) (d : ℤ) (a : Amounts) (k t v : ℕ) → total (flows_of_day c d a k t v (line_count c)) ≡ sum_below (line_count c) (due_flow c d a k t v)
+day-total c d a k t v =
+    total-filter (is_paid_on c v t) (λ l. flow c d a k l v) (below (line_count c)) ∙ total-below (line_count c) (due_flow c d a k t v)
+
+until-total : (c : CaseView) (d : ℤ) (a : Amounts) (k t n : ℕ)
+    → total (flows_until c d a k t n) ≡ sum_days n (λ v. sum_below (line_count c) (due_flow c d a k t v))
+unfolding total sum_below
+until-total c d a k t zero = ap total (flows_until-none c d a k t)
+until-total c d a k t (suc n) =
+    ap total (each-days_to-more n (λ u. flows_of_day c d a k t u (line_count c)))
+    ∙ total-append (flows_until c d a k t n) (flows_of_day c d a k t (suc n) (line_count c))
+    ∙ ap (λ z. z +ℤ total (flows_of_day c d a k t (suc n) (line_count c))) (until-total c d a k t n)
+    ∙ ap (λ z. sum_days n (λ v. sum_below (line_count c) (due_flow c d a k t v)) +ℤ z) (day-total c d a k t (suc n))
+
+-- no flow of a later day is paid on day t
+not-paid-before : (c : CaseView) (d : ℤ) (a : Amounts) (k t v l : ℕ) → t < v → due_flow c d a k t v l ≡ pos 0
+not-paid-before c d a k t v l later = by_day (pays c (instrument_of c l) v) refl
+  where
+    by_day : (o : Option ℕ) → pays c (instrument_of c l) v ≡ o → (if is_on o t then flow c d a k l v else pos 0) ≡ pos 0
+    by_day None e = refl
+    by_day (Some w) e =
+        let day = pays-within c (instrument_of c l) v w e in
+        ap (λ b. if b then flow c d a k l v else pos 0) (ne_eqb w t (λ q. omega (arith, day.0, q, later)))
+
+-- what is paid on day t is the fixed cash and the flows that are due
+pub paid-is : (c : CaseView) (d : ℤ) (a : Amounts) (k t : ℕ) → t ≤ c.last → (d *ℤ cash c t) +ℤ total (flows_until c d a k t t) ≡ paid_on c d a k t
+paid-is c d a k t within =
+    ap (λ z. (d *ℤ cash c t) +ℤ z)
+    (until-total c d a k t t
+    ∙ sum_below-swap t (line_count c) (λ j l. due_flow c d a k t (suc j) l)
+    ∙ sum_below-cong (line_count c) (λ l. sum_days t (λ v. due_flow c d a k t v l)) (λ l. sum_days c.last (λ v. due_flow c d a k t v l))
+    (λ l under. sym (sum_below-cut t c.last (λ j. due_flow c d a k t (suc j) l) within (λ j from below. not-paid-before c d a k t (suc j) l (omega (arith, from))))))
+
+-- a flow is paid by day t where it is paid on one of the days 0 to t
+paid-on-some : (o : Option ℕ) (t : ℕ) (z : ℤ) → sum_below (suc t) (λ s. if is_on o s then z else pos 0) ≡ (if is_by o t then z else pos 0)
+paid-on-some None t z = sum_below-none (suc t) (λ s. pos 0) (λ s q. refl)
+paid-on-some (Some w) t z = by_order (cases_lt t w)
+  where
+    by_order : (t < w) ⊎ (w ≤ t) → sum_below (suc t) (λ s. if w == s then z else pos 0) ≡ (if nat_le w t then z else pos 0)
+    by_order (inl later) =
+        sum_below-none (suc t) (λ s. if w == s then z else pos 0) (λ s q. ap (λ b. if b then z else pos 0) (ne_eqb w s (λ e. omega (arith, e, q, later))))
+        ∙ sym (ap (λ b. if b then z else pos 0) (lt-leb w t later))
+    by_order (inr by) =
+        sum_below-single (suc t) w (λ s. if w == s then z else pos 0) (omega (arith, by)) (λ s q ne. ap (λ b. if b then z else pos 0) (ne_eqb w s (λ e. ne (sym e))))
+        ∙ ap (λ b. if b then z else pos 0) (eq-eqb w w refl)
+        ∙ sym (ap (λ b. if b then z else pos 0) (le-leb w t by))
+
+-- the cash of the days up to t is the sum of what is paid on each
+pub cash-is : (c : CaseView) (d : ℤ) (a : Amounts) (k t : ℕ) → cash_of c d a k t ≡ sum_below (suc t) (paid_on c d a k)
+cash-is c d a k t =
+    let flows : ℕ → ℤ = λ s. sum_below (line_count c) (λ l. sum_days c.last (λ v. due_flow c d a k s v l)) in
+    sym (sum_below-plus (suc t) (λ s. d *ℤ cash c s) flows
+    ∙ ap (λ z. z +ℤ sum_below (suc t) flows) (sum_below-scale (suc t) d (cash c))
+    ∙ ap (λ z. (d *ℤ fixed c t) +ℤ z)
+    (sum_below-swap (suc t) (line_count c) (λ s l. sum_days c.last (λ v. due_flow c d a k s v l))
+    ∙ sum_below-cong (line_count c) (λ l. sum_below (suc t) (λ s. sum_days c.last (λ v. due_flow c d a k s v l)))
+    (λ l. sum_days c.last (λ v. if is_paid_by c l v t then flow c d a k l v else pos 0)) (λ l under. by_line l)))
+  where
+    by_line : (l : ℕ) → sum_below (suc t) (λ s. sum_days c.last (λ v. due_flow c d a k s v l)) ≡ sum_days c.last (λ v. if is_paid_by c l v t then flow c d a k l v else pos 0)
+    by_line l =
+        sum_below-swap (suc t) c.last (λ s j. due_flow c d a k s (suc j) l)
+        ∙ sum_below-cong c.last (λ j. sum_below (suc t) (λ s. due_flow c d a k s (suc j) l)) (λ j. if is_paid_by c l (suc j) t then flow c d a k l (suc j) else pos 0)
+        (λ j under. paid-on-some (pays c (instrument_of c l) (suc j)) t (flow c d a k l (suc j)))
+
+-- day by day
+pub cash-more : (c : CaseView) (d : ℤ) (a : Amounts) (k t : ℕ) → cash_of c d a k t ≡ sum_below t (paid_on c d a k) +ℤ paid_on c d a k t
+unfolding sum_below
+cash-more c d a k t = cash-is c d a k t
+
+-- the sums of a day: what is paid, the total, and whether one of them leaves
+pub sums-stay : (c : CaseView) (d : ℤ) (a : Amounts) (k t : ℕ) (due : List ℤ) (first paid before whole : ℤ) → t ≤ c.last → due ≡ flows_until c d a k t t
+    → before ≡ sum_below t (paid_on c d a k) → (first ≡ d *ℤ cash c t) × Stays (d *ℤ cash c t)
+    → (paid ≡ first +ℤ total due) × (any_leaves (partial_sums first due) ≡ false) → (whole ≡ before +ℤ paid) × Stays (before +ℤ paid)
+    → (paid ≡ paid_on c d a k t) × (whole ≡ cash_of c d a k t) × (any_leaves (sum_numbers c d a k t) ≡ false)
+sums-stay c d a k t due first paid before whole within listed so_far one two three =
+    let numbers : partial_sums first due ≡ partial_sums (d *ℤ cash c t) (flows_until c d a k t t) = ap (λ z. partial_sums z due) one.0 ∙ ap (partial_sums (d *ℤ cash c t)) listed in
+    let value : paid ≡ paid_on c d a k t =
+    two.0 ∙ ap (λ z. z +ℤ total due) one.0 ∙ ap (λ zs. (d *ℤ cash c t) +ℤ total zs) listed ∙ paid-is c d a k t within in
+    let sum : before +ℤ paid ≡ cash_of c d a k t =
+    ap (λ z. z +ℤ paid) so_far ∙ ap (λ z. sum_below t (paid_on c d a k) +ℤ z) value ∙ sym (cash-more c d a k t) in (
+      value,
+      three.0 ∙ sum,
+      none-cons (d *ℤ cash c t) (paid_numbers c d a k t ++ (cash_of c d a k t ∷ [])) one.1
+          (none-append (paid_numbers c d a k t) (cash_of c d a k t ∷ []) (ap any_leaves (sym numbers) ∙ two.1) (none-one (cash_of c d a k t) (subst Stays sum three.1))),
+    )
+
+pub paid-leaves : (c : CaseView) (d : ℤ) (a : Amounts) (k t : ℕ) (due : List ℤ) (first : ℤ) → due ≡ flows_until c d a k t t → first ≡ d *ℤ cash c t
+    → any_leaves (partial_sums first due) ≡ true → any_leaves (sum_numbers c d a k t) ≡ true
+paid-leaves c d a k t due first listed one out =
+    let numbers : partial_sums first due ≡ partial_sums (d *ℤ cash c t) (flows_until c d a k t t) = ap (λ z. partial_sums z due) one ∙ ap (partial_sums (d *ℤ cash c t)) listed in
+    rest-leaves (d *ℤ cash c t) (paid_numbers c d a k t ++ (cash_of c d a k t ∷ []))
+    (left-leaves (paid_numbers c d a k t) (cash_of c d a k t ∷ []) (ap any_leaves (sym numbers) ∙ out))
+
+pub total-leaves : (c : CaseView) (d : ℤ) (a : Amounts) (k t : ℕ) (due : List ℤ) (first paid before : ℤ) → t ≤ c.last → due ≡ flows_until c d a k t t
+    → before ≡ sum_below t (paid_on c d a k) → first ≡ d *ℤ cash c t → paid ≡ first +ℤ total due → Leaves (before +ℤ paid) → any_leaves (sum_numbers c d a k t) ≡ true
+total-leaves c d a k t due first paid before within listed so_far one two out =
+    let value : paid ≡ paid_on c d a k t =
+    two ∙ ap (λ z. z +ℤ total due) one ∙ ap (λ zs. (d *ℤ cash c t) +ℤ total zs) listed ∙ paid-is c d a k t within in
+    let sum : before +ℤ paid ≡ cash_of c d a k t =
+    ap (λ z. z +ℤ paid) so_far ∙ ap (λ z. sum_below t (paid_on c d a k) +ℤ z) value ∙ sym (cash-more c d a k t) in
+    rest-leaves (d *ℤ cash c t) (paid_numbers c d a k t ++ (cash_of c d a k t ∷ []))
+    (right-leaves (paid_numbers c d a k t) (cash_of c d a k t ∷ []) (first-leaves (cash_of c d a k t) [] (subst Leaves sum out)))

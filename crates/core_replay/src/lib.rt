@@ -1,0 +1,15 @@
+//! The ledger of a calendar, day by day, and its worst loss, by a replay that adds up what is paid.
+#![tactic(auto)]
+
+mod due;
+mod fault;
+mod ledger;
+mod lines;
+mod losses;
+mod steps;
+#[cfg(test)]
+mod tests;
+
+pub use fault::ReplayFault;
+pub use ledger::{Ledger, replay};
+pub use losses::{WorstLoss, worst};
