@@ -3,8 +3,12 @@ use Rattle.std.specs.Prelude.{◌≡◌, ℤ, ◌*ℤ◌}
 use Rattle.core_case.specs.View.{CaseView}
 use Rattle.core_case.specs.Kept.{IsCase}
 use Rattle.core_model.specs.declared.cert.Weights.{Weights}
+use Rattle.core_model.specs.declared.cert.Cert.{Cert}
 use Rattle.core_model.specs.Closing.{Amounts, IsAdmissible, worst_loss, IsLeast, CannotClose}
 use Rattle.core_model.specs.Bounds.{AreBounding, AreRefusing, bound}
+use Rattle.core_model.specs.Shows.{Shows}
+use Rattle.core_model.specs.Fits.{Fits}
+use Rattle.core_model.specs.Check.{IsValid}
 
 -- An admissible calendar whose worst loss is what bounding weights give as their bound is least: no admissible
 -- calendar, over any denominator, has a lower worst loss.
@@ -16,3 +20,7 @@ MetBoundShowsLeast =
 -- Where weights refuse, no calendar is admissible, over any denominator.
 abbrev pub RefusingShowsNone : Type 0
 RefusingShowsNone = (c : CaseView) (w : Weights) → IsCase c → AreRefusing c w → CannotClose c
+
+-- A valid certificate of a case shows what it states, whatever the width of the numbers that its check takes.
+abbrev pub ValidShows : Type 0
+ValidShows = (c : CaseView) (cert : Cert) → IsCase c → Fits c cert → IsValid c cert → Shows c cert
