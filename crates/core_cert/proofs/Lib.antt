@@ -6,3 +6,27 @@ pub mod Joined
 pub mod FewLines
 pub mod Size
 pub mod CertSize
+pub mod FormsFirst
+pub mod FormsWalk
+pub mod NamePlaces
+pub mod NamesApart
+pub mod RecordFaults
+pub mod ReadingCount
+pub mod NumbersStated
+pub mod ReadingRows
+mod RoundTripRows
+pub mod RoundTripOrder
+pub mod RoundTripSound
+pub mod PlainReading
+pub mod RoundTripBlocks
+pub mod RoundTripFields
+pub mod RoundTripNames
+pub mod RoundTripRecords
+pub mod RoundTripSections
+pub mod RoundTripRest
+pub mod RoundTripWords
+pub mod RoundTripWeights
+pub mod RoundTripStated
+pub mod RoundTripRefusing
+pub mod RoundTripClosing
+pub mod RoundTrip

@@ -1,7 +1,20 @@
 //! The text of a certificate.
 #![tactic(auto)]
 
+mod faults;
+mod fields;
+mod forms;
+mod kinds;
+mod laws;
+mod names;
+mod read;
 mod record;
+mod state;
+mod steps;
+#[cfg(test)]
+mod tests;
 mod write;
 
+pub use laws::cert_text_law;
+pub use read::{CertFault, read_cert};
 pub use write::write_cert;

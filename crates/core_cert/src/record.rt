@@ -10,7 +10,7 @@ use core_rows::{Fields, Name, put_row};
 use std::alloc::{AllocError, Global};
 
 /// The word of a side.
-fn side_word(side: Side) -> &'static [u8]
+pub(crate) fn side_word(side: Side) -> &'static [u8]
     ensures { result.now ≡ side_word side }
 {
     match side {

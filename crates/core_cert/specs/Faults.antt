@@ -1,0 +1,189 @@
+-- The first faulty record of a certificate, and its fault. A record is judged by the case, by the record before it and
+-- by the second record, in the order of the steps below, and the first step that fails gives the fault.
+use Rattle.std.specs.Prelude.{ℕ, zero, suc, ◌+◌, ◌-◌, ◌*◌, List, [], ◌∷◌, ◌++◌, length, map, drop, codes, ℤ, pos, int_le, unsigned_abs, Bool, true, false, not, ◌&&◌, ◌||◌, ◌==◌, nat_lt, if◌then◌else◌, Option, Some, None, is_some}
+use Rattle.std.specs.Ordering.{int_eq}
+use Rattle.std.specs.Option.{option_or, unwrap_or}
+use Rattle.std.specs.List.{list_any, position_or_len}
+use Rattle.std.specs.Str.{bytes_eq}
+use Rattle.core_sums.specs.Places.{below, row_at}
+use Rattle.core_rows.specs.Names.{Record}
+use Rattle.core_rows.specs.Fields.{wide, name_of}
+use Rattle.core_case.specs.View.{CaseView, instrument, line, instrument_of}
+use Rattle.core_model.specs.Closing.{line_count}
+use Rattle.core_cert.specs.declared.kinds.RecordKind.{RecordKind}
+use Rattle.core_cert.specs.declared.kinds.RecordKind.TheVariants.{Cert, Cannot, Amount, Margin, Scenario, Limit, Pool, Full, End}
+use Rattle.core_cert.specs.declared.forms.Form.{Form}
+use Rattle.core_cert.specs.declared.forms.Form.TheVariants.{Version, Name, SideWord, Day, Numerator, NotZero}
+use Rattle.core_cert.specs.declared.faults.RecordFault.{RecordFault}
+use Rattle.core_cert.specs.declared.faults.RecordFault.TheVariants.{FirstNotCert, NotVersionOne, UnknownKind, OutOfOrder, FieldCount, NotAName, NotANumber, NotASide, OutOfRange, NotInCase, NoSuchLine, NotRising, NotTheMargin, AfterEnd, EndMissing}
+use Rattle.core_cert.specs.Written.{side_word, floored}
+use Rattle.core_cert.specs.Kinds.{field, kind_of, is_kind, followers, forms}
+
+-- a fault where the test fails
+abbrev pub fault_unless : Bool → RecordFault → Option RecordFault
+fault_unless true fault = None
+fault_unless false fault = Some fault
+
+-- the first fault of a list of steps
+unfoldable pub first_of : List (Option RecordFault) → Option RecordFault
+first_of [] = None
+first_of (x ∷ xs) = option_or x (first_of xs)
+
+-- the last of some records, empty where there is none
+abbrev pub last_record : List Record → Record
+last_record rs = row_at rs (length rs - 1)
+
+-- step 1: no record stands after `end`
+abbrev pub end_before : List Record → Option RecordFault
+end_before earlier = fault_unless (not (is_kind End (last_record earlier))) AfterEnd
+
+-- step 2: the kind
+abbrev pub kind_step : ℕ → Record → Option RecordFault
+kind_step zero r = fault_unless (is_kind Cert r) FirstNotCert
+kind_step (suc n) r = fault_unless (is_some (kind_of r)) UnknownKind
+
+-- step 3: the kind may stand after the record before it, in a certificate of the form that the second record says
+abbrev pub is_refusing : List Record → Bool
+is_refusing rs = is_kind Cannot (row_at rs 1)
+
+abbrev pub is_follower : Bool → Option RecordKind → Record → Bool
+is_follower refusing None r = false
+is_follower refusing (Some kind) r = list_any (λ x. is_kind x r) (followers refusing kind)
+
+abbrev pub order_step : List Record → Record → Option RecordFault
+order_step [] r = None
+order_step (x ∷ xs) r = fault_unless (is_follower (is_refusing (x ∷ xs)) (kind_of (last_record (x ∷ xs))) r) OutOfOrder
+
+-- step 4: the number of fields
+abbrev pub count_step : List Form → Record → Option RecordFault
+count_step fs r = fault_unless (length r == suc (length fs)) FieldCount
+
+-- step 5: the form of each field, from left to right
+abbrev pub is_side_word : List ℕ → Bool
+is_side_word word = bytes_eq word (codes "position") || bytes_eq word (codes "collateral")
+
+abbrev pub form_fault : Form → List ℕ → Option RecordFault
+form_fault Version word = fault_unless (bytes_eq word (codes "1")) NotVersionOne
+form_fault Name word = fault_unless (is_some (name_of word)) NotAName
+form_fault SideWord word = fault_unless (is_side_word word) NotASide
+form_fault (Day first last) word = fault_unless (is_some (wide word)) NotANumber
+form_fault Numerator word = fault_unless (is_some (wide word)) NotANumber
+form_fault NotZero word = fault_unless (is_some (wide word)) NotANumber
+
+-- step 6: the range of each field, from left to right
+abbrev pub number_in : List ℕ → ℤ
+number_in word = unwrap_or (wide word) (pos 0)
+
+abbrev pub range_fault : Form → List ℕ → Option RecordFault
+range_fault Version word = None
+range_fault Name word = None
+range_fault SideWord word = None
+range_fault (Day first last) word = fault_unless (int_le (pos first) (number_in word) && int_le (number_in word) (pos last)) OutOfRange
+range_fault Numerator word = None
+range_fault NotZero word = fault_unless (not (int_eq (number_in word) (pos 0))) OutOfRange
+
+-- a test of each field by its form
+unfoldable pub by_form : (Form → List ℕ → Option RecordFault) → List Form → Record → List (Option RecordFault)
+by_form test [] r = []
+by_form test (f ∷ fs) [] = []
+by_form test (f ∷ fs) (word ∷ r) = test f word ∷ by_form test fs r
+
+-- step 7: the case has the name
+abbrev pub instrument_names : CaseView → List (List ℕ)
+instrument_names c = map (λ x. x.name) c.instruments
+
+abbrev pub pool_names : CaseView → List (List ℕ)
+pool_names c = map (λ x. x.name) c.pools
+
+abbrev pub name_fault : List (List ℕ) → Record → Option RecordFault
+name_fault names r = fault_unless (list_any (bytes_eq (field r 1)) names) NotInCase
+
+abbrev pub name_step : CaseView → RecordKind → Record → Option RecordFault
+name_step c Amount r = name_fault (instrument_names c) r
+name_step c Scenario r = name_fault c.scenarios r
+name_step c Limit r = name_fault (instrument_names c) r
+name_step c Pool r = name_fault (pool_names c) r
+name_step c Full r = name_fault (instrument_names c) r
+name_step c _ r = None
+
+-- step 8: the instrument has a line of the side
+abbrev pub is_line_of : CaseView → Record → ℕ → Bool
+is_line_of c r l = bytes_eq (field r 1) (instrument c (instrument_of c l)).name && bytes_eq (field r 2) (side_word (line c l).side)
+
+-- the line of a record, their number where there is none
+abbrev pub line_named : CaseView → Record → ℕ
+line_named c r = position_or_len (is_line_of c r) (below (line_count c))
+
+abbrev pub line_fault : CaseView → Record → Option RecordFault
+line_fault c r = fault_unless (nat_lt (line_named c r) (line_count c)) NoSuchLine
+
+abbrev pub line_step : CaseView → RecordKind → Record → Option RecordFault
+line_step c Amount r = line_fault c r
+line_step c Full r = line_fault c r
+line_step c _ r = None
+
+-- Step 9: the key is above that of the record before, where that is of the same kind. A key is a number of the case and
+-- a day; as one number it is the place in the list of the kind's numbers.
+abbrev pub place_of : List ℕ → List (List ℕ) → ℕ
+place_of name names = position_or_len (bytes_eq name) names
+
+abbrev pub day_in : Record → ℕ → ℕ
+day_in r n = unsigned_abs (number_in (field r n))
+
+abbrev pub place_in : CaseView → RecordKind → Record → ℕ
+place_in c Amount r = line_named c r * c.horizon + (day_in r 3 - 1)
+place_in c Scenario r = place_of (field r 1) c.scenarios * suc c.last + day_in r 2
+place_in c Limit r = place_of (field r 1) (instrument_names c) * c.horizon + (day_in r 2 - 1)
+place_in c Pool r = place_of (field r 1) (pool_names c) * c.horizon + (day_in r 2 - 1)
+place_in c Full r = line_named c r
+place_in c _ r = 0
+
+abbrev pub key_step : CaseView → List Record → RecordKind → Record → Option RecordFault
+key_step c earlier kind r =
+    fault_unless (not (is_kind kind (last_record earlier)) || nat_lt (place_in c kind (last_record earlier)) (place_in c kind r)) NotRising
+
+-- step 10: the margin is the loss before it, floored at nought
+abbrev pub margin_step : List Record → RecordKind → Record → Option RecordFault
+margin_step earlier Margin r =
+    fault_unless (int_eq (number_in (field r 1)) (floored (number_in (field (last_record earlier) 1)))) NotTheMargin
+margin_step earlier _ r = None
+
+-- the steps on the fields of a record alone
+abbrev pub fields_fault : List Form → Record → Option RecordFault
+fields_fault fs r =
+    first_of
+    (count_step fs r
+    ∷ first_of (by_form form_fault fs (drop 1 r))
+    ∷ first_of (by_form range_fault fs (drop 1 r))
+    ∷ [])
+
+-- the steps on a record for a case, after the records before it
+abbrev pub case_fault : CaseView → List Record → RecordKind → Record → Option RecordFault
+case_fault c earlier kind r = first_of (name_step c kind r ∷ line_step c kind r ∷ key_step c earlier kind r ∷ margin_step earlier kind r ∷ [])
+
+-- the steps of a record of a known kind
+abbrev pub later_fault : CaseView → List Record → Record → Option RecordKind → Option RecordFault
+later_fault c earlier r None = None
+later_fault c earlier r (Some kind) =
+    first_of (order_step earlier r ∷ fields_fault (forms c.horizon c.last kind) r ∷ case_fault c earlier kind r ∷ [])
+
+-- the fault of a record, none of a sound one
+abbrev pub fault_of : CaseView → List Record → Record → Option RecordFault
+fault_of c earlier r = first_of (end_before earlier ∷ kind_step (length earlier) r ∷ later_fault c earlier r (kind_of r) ∷ [])
+
+-- A faulty record by its number, from 1, and its fault.
+abbrev pub Faulty : Type 0
+Faulty = ℕ × RecordFault
+
+-- the fault where no record is left: the last one is not `end`
+abbrev pub missing_end : List Record → Option Faulty
+missing_end [] = Some (1, FirstNotCert)
+missing_end (r ∷ rs) = if is_kind End (last_record (r ∷ rs)) then None else Some (suc (length (r ∷ rs)), EndMissing)
+
+-- the first fault of the records, where these came before
+unfoldable pub first_fault_after : CaseView → List Record → List Record → Option Faulty
+first_fault_after c earlier [] = missing_end earlier
+first_fault_after c earlier (r ∷ rs) = elim (fault_of c earlier r) [ Some fault ↦ Some (suc (length earlier), fault) | None ↦ first_fault_after c (earlier ++ (r ∷ [])) rs ]
+
+abbrev pub first_fault : CaseView → List Record → Option Faulty
+first_fault c rs = first_fault_after c [] rs

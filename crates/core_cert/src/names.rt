@@ -1,0 +1,295 @@
+// The names of a case, numbered.
+ghost use Rattle.std.specs.Prelude.{◌≡◌, ◌≢◌, ◌<◌, ◌≤◌, ◌+◌, ◌*◌, ◌^◌, map, IfOk};
+ghost use Rattle.std.specs.List.{AllPairs, list_any};
+ghost use Rattle.std.specs.Str.{bytes_eq};
+ghost use Rattle.core_cert.specs.Faults.{instrument_names, place_of, pool_names};
+ghost use Rattle.core_cert.specs.Numbered.{key_words, lines_words};
+
+use crate::faults::RecordFault;
+use crate::fields::{day_in, word};
+use crate::forms::{Spans, fault_unless};
+use crate::kinds::RecordKind;
+use crate::record::side_word;
+use core_case::Case;
+use core_rows::{Fields, Name};
+use indexmap::IndexSet;
+use std::alloc::{AllocError, Global};
+use std::marker::Model;
+
+/// The names of a case, each list in the order of the case.
+#[derive(Drop)]
+pub(crate) struct NameLists {
+    pub(crate) instruments: Vec<Name>,
+    pub(crate) scenarios: Vec<Name>,
+    pub(crate) pools: Vec<Name>,
+}
+
+/// A line, by the words that name it.
+#[derive(Clone, Copy, PartialEq, Eq, Hash)]
+pub(crate) struct LineKey<'a> {
+    pub(crate) instrument: &'a [u8],
+    pub(crate) side: &'a [u8],
+}
+
+/// A case whose names and lines are found by their words. Contracts see the case.
+#[derive(Drop)]
+pub(crate) struct CaseNames<'a> {
+    pub(crate) case: &'a Case,
+    pub(crate) instruments: IndexSet<&'a [u8]>,
+    pub(crate) scenarios: IndexSet<&'a [u8]>,
+    pub(crate) pools: IndexSet<&'a [u8]>,
+    pub(crate) lines: IndexSet<LineKey<'a>>,
+}
+
+impl<'a> Model for CaseNames<'a> {
+    ghost use Rattle.core_case.specs.View.{CaseView};
+    ghost use Rattle.core_cert.specs.Numbered.{IsNumbered};
+
+    ghost Value = { CaseView };
+
+    ghost view = { λ a. a.case.now };
+
+    ghost invariant = { IsNumbered };
+}
+
+/// The names of the instruments, in order.
+fn instrument_names(alloc: Global, case: &Case) -> Result<Vec<Name>, AllocError>
+    ensures { IfOk result (λ v. v.items ≡ instrument_names case.now) }
+{
+    let mut names = Vec::with_capacity(alloc, case.instruments())?;
+    for i in 0..case.instruments() {
+        names.push(case.instrument(i).name)?;
+    }
+    Ok(names)
+}
+
+/// The names of the scenarios, in order.
+fn scenario_names(alloc: Global, case: &Case) -> Result<Vec<Name>, AllocError>
+    ensures { IfOk result (λ v. v.items ≡ case.now.scenarios) }
+{
+    let mut names = Vec::with_capacity(alloc, case.scenarios())?;
+    for k in 0..case.scenarios() {
+        names.push(case.scenario(k))?;
+    }
+    Ok(names)
+}
+
+/// The names of the pools, in order.
+fn pool_names(alloc: Global, case: &Case) -> Result<Vec<Name>, AllocError>
+    ensures { IfOk result (λ v. v.items ≡ pool_names case.now) }
+{
+    let mut names = Vec::with_capacity(alloc, case.pools())?;
+    for p in 0..case.pools() {
+        names.push(case.pool(p).name)?;
+    }
+    Ok(names)
+}
+
+impl NameLists {
+    /// The names of a case.
+    pub(crate) fn of_case(alloc: Global, case: &Case) -> Result<NameLists, AllocError>
+        ensures instruments { IfOk result (λ lists. lists.instruments.items ≡ instrument_names case.now) }
+        ensures scenarios { IfOk result (λ lists. lists.scenarios.items ≡ case.now.scenarios) }
+        ensures pools { IfOk result (λ lists. lists.pools.items ≡ pool_names case.now) }
+    {
+        Ok(NameLists {
+            instruments: instrument_names(alloc, case)?,
+            scenarios: scenario_names(alloc, case)?,
+            pools: pool_names(alloc, case)?,
+        })
+    }
+}
+
+/// Names that differ, each with its number.
+fn numbered<'a>(alloc: Global, names: &'a [Name]) -> Result<IndexSet<&'a [u8]>, AllocError>
+    requires { AllPairs (λ x y. x ≢ y) names.now }
+    ensures { IfOk result (λ set. map (λ k. k.now) set.keys ≡ names.now) }
+{
+    let mut set = IndexSet::new(alloc);
+    for name in names {
+        set.insert(name.bytes())?;
+    }
+    Ok(set)
+}
+
+/// The lines of a case, each with its number.
+fn numbered_lines<'a>(
+    alloc: Global,
+    case: &Case,
+    instruments: &'a [Name],
+) -> Result<IndexSet<LineKey<'a>>, AllocError>
+    requires { instruments.now ≡ instrument_names case.now }
+    ensures { IfOk result (λ set. map key_words set.keys ≡ lines_words case.now) }
+{
+    // No two lines of a case are of one instrument and one side.
+    let _kept = case.horizon();
+    let mut lines = IndexSet::new(alloc);
+    for l in 0..case.lines() {
+        let line = case.line(l);
+        lines.insert(LineKey {
+            instrument: instruments[line.instrument].bytes(),
+            side: side_word(line.side),
+        })?;
+    }
+    Ok(lines)
+}
+
+/// Whether a word is one of some names.
+fn has_name(names: &IndexSet<&[u8]>, word: &[u8]) -> bool
+    ensures { result ≡ list_any (bytes_eq word.now) (map (λ k. k.now) names.now.keys) }
+{
+    names.contains(word)
+}
+
+/// The number of a name, and how many names there are where it is none of them.
+fn place_of(names: &IndexSet<&[u8]>, word: &[u8]) -> usize
+    ensures { result ≡ place_of word.now (map (λ k. k.now) names.now.keys) }
+{
+    match names.get_index_of(word) {
+        Some(place) => place,
+        None => names.len(),
+    }
+}
+
+/// The place of a row and a column, both from 0, where each row has so many columns.
+fn cell(row: usize, columns: u8, column: u128) -> u128
+    requires { column < 2 ^ 127 }
+    ensures { result ≡ row * columns + column }
+{
+    row as u128 * u128::from(columns) + column
+}
+
+/// How many places so many rows of so many columns have.
+fn cells(rows: usize, columns: usize) -> usize
+    requires rows { rows ≤ 64 }
+    requires columns { columns ≤ 64 }
+    ensures { result ≡ rows * columns }
+{
+    rows * columns
+}
+
+impl<'a> CaseNames<'a> {
+    ghost use Rattle.std.specs.Prelude.{◌≡◌, ◌<◌, ◌+◌, ◌-◌, ◌*◌, ◌^◌, IfOk};
+    ghost use Rattle.core_cert.specs.Faults.{instrument_names, line_named, line_step, name_step, place_in, pool_names};
+    ghost use Rattle.core_cert.specs.Numbered.{places_of};
+
+    /// A case, with its names numbered.
+    pub(crate) fn make(
+        alloc: Global,
+        case: &'a Case,
+        lists: &'a NameLists,
+    ) -> Result<CaseNames<'a>, AllocError>
+        requires instruments { lists.now.instruments.items ≡ instrument_names case.now }
+        requires scenarios { lists.now.scenarios.items ≡ case.now.scenarios }
+        requires pools { lists.now.pools.items ≡ pool_names case.now }
+        ensures { IfOk result (λ names. names ≡ case.now) }
+    {
+        // No two instruments, scenarios or pools of a case have one name.
+        let _kept = case.horizon();
+        Ok(CaseNames {
+            case,
+            instruments: numbered(alloc, &lists.instruments)?,
+            scenarios: numbered(alloc, &lists.scenarios)?,
+            pools: numbered(alloc, &lists.pools)?,
+            lines: numbered_lines(alloc, case, &lists.instruments)?,
+        })
+    }
+
+    /// The last closing day and the last house day.
+    pub(crate) fn spans(&self) -> Spans
+        ensures horizon { result.horizon ≡ self.now.horizon }
+        ensures last { result.last ≡ self.now.last }
+    {
+        Spans {
+            horizon: self.case.horizon(),
+            last: self.case.last(),
+        }
+    }
+
+    /// The line that a record names, and how many lines there are where the case has no such line.
+    fn line_named(&self, row: &Fields) -> usize
+        ensures { result ≡ line_named self.now row.now }
+    {
+        match self.lines.get_index_of(&LineKey {
+            instrument: word(row, 1),
+            side: word(row, 2),
+        }) {
+            Some(line) => line,
+            None => self.lines.len(),
+        }
+    }
+
+    /// The fault of a record of this kind whose scenario, instrument or pool the case has not.
+    pub(crate) fn name_fault(&self, kind: RecordKind, row: &Fields) -> Option<RecordFault>
+        ensures { result ≡ name_step self.now kind row.now }
+    {
+        let name = word(row, 1);
+        match kind {
+            RecordKind::Amount | RecordKind::Limit | RecordKind::Full => {
+                fault_unless(has_name(&self.instruments, name), RecordFault::NotInCase)
+            }
+            RecordKind::Scenario => {
+                fault_unless(has_name(&self.scenarios, name), RecordFault::NotInCase)
+            }
+            RecordKind::Pool => fault_unless(has_name(&self.pools, name), RecordFault::NotInCase),
+            _ => None,
+        }
+    }
+
+    /// The fault of a record of this kind whose instrument has no line of its side.
+    pub(crate) fn line_fault(&self, kind: RecordKind, row: &Fields) -> Option<RecordFault>
+        ensures { result ≡ line_step self.now kind row.now }
+    {
+        match kind {
+            RecordKind::Amount | RecordKind::Full => fault_unless(
+                self.line_named(row) < self.case.lines(),
+                RecordFault::NoSuchLine,
+            ),
+            _ => None,
+        }
+    }
+
+    /// The place of a record of this kind in the list of the kind's numbers. A record that names nothing of the case has
+    /// a place past the list's end.
+    pub(crate) fn place(&self, kind: RecordKind, row: &Fields) -> u128
+        ensures { result ≡ place_in self.now kind row.now }
+    {
+        let name = word(row, 1);
+        match kind {
+            RecordKind::Amount => self.closing_place(self.line_named(row), day_in(row, 3)),
+            RecordKind::Scenario => {
+                let scenario = place_of(&self.scenarios, name);
+                cell(scenario, self.case.last() + 1, day_in(row, 2))
+            }
+            RecordKind::Limit => {
+                self.closing_place(place_of(&self.instruments, name), day_in(row, 2))
+            }
+            RecordKind::Pool => self.closing_place(place_of(&self.pools, name), day_in(row, 2)),
+            RecordKind::Full => self.line_named(row) as u128,
+            _ => 0,
+        }
+    }
+
+    /// The place of a row and a closing day, from 1, where each row has a place for each closing day.
+    fn closing_place(&self, row: usize, day: u128) -> u128
+        requires { day < 2 ^ 127 }
+        ensures { result ≡ row * self.now.horizon + (day - 1) }
+    {
+        cell(row, self.case.horizon(), day.saturating_sub(1))
+    }
+
+    /// How many places the list of a kind's numbers has.
+    pub(crate) fn places(&self, kind: RecordKind) -> usize
+        ensures { result ≡ places_of self.now kind }
+    {
+        let horizon = self.case.horizon() as usize;
+        match kind {
+            RecordKind::Amount => cells(self.case.lines(), horizon),
+            RecordKind::Scenario => cells(self.case.scenarios(), self.case.last() as usize + 1),
+            RecordKind::Limit => cells(self.case.instruments(), horizon),
+            RecordKind::Pool => cells(self.case.pools(), horizon),
+            RecordKind::Full => self.case.lines(),
+            _ => 0,
+        }
+    }
+}
