@@ -1,18 +1,28 @@
-//! Times what its arguments name, one after another: `core_bench fractions`. It prints nothing
-//! without arguments.
+//! Times what its words name: `core_bench fractions`, or `core_bench reading FILE` and `core_bench flows FILE` for a
+//! file that is a case. It prints nothing without words.
 #![tactic(auto)]
 
+mod calendar;
+mod clock;
+mod file;
+mod flows;
+mod reading;
 mod timing;
 
 use anyhow::{Result, bail};
+use core_io::FileShelf;
 use std::env;
 
 fn main(rt: HostRuntime) -> Result<()> {
-    for name in env::args(&rt)?.skip(1) {
-        match name.as_str() {
-            "fractions" => timing::run(&rt)?,
-            other => bail!("no benchmark is called {other}"),
+    let words: Vec<String> = env::args(&rt)?.skip(1).collect(rt.alloc())?;
+    let mut shelf = FileShelf::make(rt);
+    match words.as_slice() {
+        [] => Ok(()),
+        [name] if name.as_str() == "fractions" => timing::run(&rt),
+        [name, file] if name.as_str() == "reading" => {
+            reading::run(&rt, &mut shelf, file.as_str())
         }
+        [name, file] if name.as_str() == "flows" => flows::run(&rt, &mut shelf, file.as_str()),
+        _ => bail!("the words are `fractions`, `reading FILE` or `flows FILE`"),
     }
-    Ok(())
 }

@@ -1,12 +1,13 @@
 // A million of each operation on fractions, beside as many checked operations of i128.
 ghost use Rattle.std.specs.Prelude.{◌≤◌, ◌<◌, ◌^◌};
 
+use crate::clock::spent;
 use anyhow::Result;
 use exact_frac::{Exact, Frac64, Frac128, Left};
 use std::alloc::{AllocError, Global};
 use std::hint::black_box;
 use std::io;
-use std::time::{CpuClock, Duration};
+use std::time::CpuClock;
 
 // How many operands are made, how often each operation is done on all of them, and how many times
 // that is.
@@ -146,16 +147,6 @@ fn time_plain<R: CpuClock>(rt: &R, operation: Operation, all: &[i128]) -> io::Re
     }
     let end = rt.thread_cpu_time()?;
     Ok(spent(start, end, black_box(sum)))
-}
-
-// The time between, where the answers' sum is taken in so that none is left out.
-fn spent(start: Duration, end: Duration, sum: u128) -> u128 {
-    let nanoseconds = end.saturating_sub(start).as_nanos();
-    if sum == 1 {
-        nanoseconds | 1
-    } else {
-        nanoseconds
-    }
 }
 
 fn exact_round<E: Exact>(operation: Operation, all: &[E]) -> u128 {
