@@ -1,8 +1,10 @@
 //! Times what its words name: `core_bench fractions`, or `core_bench reading FILE` and `core_bench flows FILE` for a
-//! file that is a case. It prints nothing without words.
+//! file that is a case, or `core_bench certificates FILE CERT` for a case and a certificate of it. It prints nothing
+//! without words.
 #![tactic(auto)]
 
 mod calendar;
+mod certificates;
 mod clock;
 mod file;
 mod flows;
@@ -23,6 +25,11 @@ fn main(rt: HostRuntime) -> Result<()> {
             reading::run(&rt, &mut shelf, file.as_str())
         }
         [name, file] if name.as_str() == "flows" => flows::run(&rt, &mut shelf, file.as_str()),
-        _ => bail!("the words are `fractions`, `reading FILE` or `flows FILE`"),
+        [name, file, cert] if name.as_str() == "certificates" => {
+            certificates::run(&rt, &mut shelf, file.as_str(), cert.as_str())
+        }
+        _ => bail!(
+            "the words are `fractions`, `reading FILE`, `flows FILE` or `certificates FILE CERT`"
+        ),
     }
 }
