@@ -3,7 +3,6 @@ pub mod Plainly
 pub mod Printed
 pub mod Rising
 pub mod Joined
-pub mod FewLines
 pub mod Size
 pub mod CertSize
 pub mod FormsFirst

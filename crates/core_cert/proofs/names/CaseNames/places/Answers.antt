@@ -1,5 +1,5 @@
 use Rattle.std.proofs.Common.{arith}
-use Rattle.core_cert.proofs.FewLines.{lines-few}
+use Rattle.core_model.proofs.FewLines.{lines-few}
 use Rattle.core_cert.proofs.names.CaseNames.places.Goals as goal
 
 pub cells-requires-clause-rows : goal.cells-requires-clause-rows
