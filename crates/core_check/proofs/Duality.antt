@@ -2,12 +2,12 @@
 use Rattle.std.proofs.Common.{◌≡◌, sym, ◌∙◌, ℕ, suc, ℤ, pos, ◌+ℤ◌, ◌-ℤ◌, ◌*ℤ◌, ◌≤ℤ◌, arith, if◌then◌else◌, length}
 use Rattle.std.proofs.lemmas.Int.{ints}
 use Rattle.core_sums.specs.Sums.{sum_grid}
+use Rattle.core_sums.proofs.Grids.{sum_grid-cong, sum_grid-le, sum_grid-scale, sum_grid-swap}
 use Rattle.core_case.specs.View.{CaseView, instrument_of, is_allowed}
 use Rattle.core_model.specs.declared.cert.Weights.{Weights}
 use Rattle.core_model.specs.Closing.{Amounts, line_count, IsAdmissible}
 use Rattle.core_model.specs.Bounds.{unit, scenario_weight, limit_weight, pool_charge, full_weight, charge, AreWeights}
 use Rattle.core_flows.specs.Laws.{paid_units}
-use Rattle.core_sums.proofs.Grids.{sum_grid-cong, sum_grid-le, sum_grid-scale, sum_grid-swap}
 use Rattle.core_check.proofs.Weighted.{weighted-le}
 
 -- what the weights charge one unit of a line on day j + 1, besides the losses
@@ -32,7 +32,8 @@ weighted_paid-le c d a w losses admissible weights =
     inside ∙ sum_grid-swap (length c.scenarios) (suc c.last) (line_count c) c.horizon (λ k t l j. scenario_weight c w k t *ℤ paid k t l j) in
     let less : sum_grid (line_count c) c.horizon (λ l j. sum_grid (length c.scenarios) (suc c.last) (λ k t. scenario_weight c w k t *ℤ paid k t l j))
     ≤ℤ sum_grid (line_count c) c.horizon (λ l j. a l (suc j) *ℤ free_charge c w l j) =
-    sum_grid-le (line_count c) c.horizon (λ l j. sum_grid (length c.scenarios) (suc c.last) (λ k t. scenario_weight c w k t *ℤ paid k t l j)) (λ l j. a l (suc j) *ℤ free_charge c w l j)
+    sum_grid-le (line_count c) c.horizon (λ l j. sum_grid (length c.scenarios) (suc c.last) (λ k t. scenario_weight c w k t *ℤ paid k t l j))
+    (λ l j. a l (suc j) *ℤ free_charge c w l j)
     (λ l j first second. weighted-le (is_allowed c l (suc j)) (length c.scenarios) (suc c.last) (scenario_weight c w) (λ k t. unit c l k (suc j) t) (a l (suc j)) (free_charge c w l j)
     (admissible.calendar.1 l (suc j) first (omega arith, omega (arith, second)))
     (admissible.allowed l (suc j) first (omega arith, omega (arith, second)))

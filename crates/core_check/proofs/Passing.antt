@@ -1,34 +1,25 @@
 -- From a test of every item of a list to the fact for each index.
 use Rattle.std.proofs.Common.{◌≡◌, refl, sym, ◌∙◌, ap, ℕ, zero, suc, ◌-◌, ◌<◌, ◌≤◌, ◌⊎◌, inl, inr, arith, Bool, true, false, ◌&&◌, ◌||◌, List, [], ◌∷◌, ◌++◌, map}
-use Rattle.std.proofs.lemmas.Bool.{cases_lt}
+use Rattle.std.proofs.lemmas.Bool.{and_parts, cases_lt, or_cases}
 use Rattle.std.proofs.lemmas.List.Folds.{list_all-append, list_all-map, list_any-append}
 use Rattle.std.specs.List.{list_all, list_any}
 use Rattle.core_sums.specs.Places.{below, days_to, each}
 use Rattle.core_sums.proofs.Lists.{days_to-below}
 use Rattle.core_model.specs.Check.{Test, Place, places_of, pairs}
 
--- both tests hold
-and_first : (a b : Bool) → (a && b) ≡ true → a ≡ true
-and_first true b e = refl
-and_first false b e = e
-
-and_second : (a b : Bool) → (a && b) ≡ true → b ≡ true
-and_second true b e = e
-and_second false b e = cc
-
 -- every item of both lists passes
 pub all-left : {A : Type 0} (p : A → Bool) (xs ys : List A) → list_all p (xs ++ ys) ≡ true → list_all p xs ≡ true
-all-left p xs ys e = and_first (list_all p xs) (list_all p ys) (sym (list_all-append p xs ys) ∙ e)
+all-left p xs ys e = (and_parts (list_all p xs) (list_all p ys) (sym (list_all-append p xs ys) ∙ e)).0
 
 pub all-right : {A : Type 0} (p : A → Bool) (xs ys : List A) → list_all p (xs ++ ys) ≡ true → list_all p ys ≡ true
-all-right p xs ys e = and_second (list_all p xs) (list_all p ys) (sym (list_all-append p xs ys) ∙ e)
+all-right p xs ys e = (and_parts (list_all p xs) (list_all p ys) (sym (list_all-append p xs ys) ∙ e)).1
 
 -- the first item passes, and so do the others
 pub all-head : {A : Type 0} (p : A → Bool) (x : A) (xs : List A) → list_all p (x ∷ xs) ≡ true → p x ≡ true
-all-head p x xs e = and_first (p x) (list_all p xs) e
+all-head p x xs e = (and_parts (p x) (list_all p xs) e).0
 
 pub all-tail : {A : Type 0} (p : A → Bool) (x : A) (xs : List A) → list_all p (x ∷ xs) ≡ true → list_all p xs ≡ true
-all-tail p x xs e = and_second (p x) (list_all p xs) e
+all-tail p x xs e = (and_parts (p x) (list_all p xs) e).1
 
 -- each number below n passes
 pub all-below : (n : ℕ) (p : ℕ → Bool) → list_all p (below n) ≡ true → (i : ℕ) → i < n → p i ≡ true
@@ -76,11 +67,6 @@ pub all-by_index : {A : Type 0} (n m : ℕ) (f : ℕ → ℕ → A) (p : A → B
 all-by_index n m f p e i j first second =
     all-below m (λ v. p (f i v))
     (all-below n (λ k. list_all (λ v. p (f k v)) (below m)) (sym (all-pairs (below n) (below m) f p) ∙ e) i first) j second
-
--- one of two tests holds
-or_cases : (a b : Bool) → (a || b) ≡ true → (a ≡ true) ⊎ (b ≡ true)
-or_cases true b e = inl refl
-or_cases false b e = inr e
 
 -- a number below n passes where one of the list does
 any-below : (n : ℕ) (p : ℕ → Bool) → list_any p (below n) ≡ true → (i : ℕ) × (i < n) × (p i ≡ true)

@@ -98,7 +98,10 @@ limit-below = refl
 
 -- the same case with a unit of collateral beside the position
 abbrev covered : CaseView
-covered = record crossing { lines = record { instrument = 0; side = Position; sign = pos 1; amount = pos 1 } ∷ record { instrument = 0; side = Collateral; sign = pos 1; amount = pos 1 } ∷ [] }
+covered = record crossing {
+  lines =
+      record { instrument = 0; side = Position; sign = pos 1; amount = pos 1 } ∷ record { instrument = 0; side = Collateral; sign = pos 1; amount = pos 1 } ∷ [];
+}
 
 -- the full weight of collateral is the twelfth sign, behind eight, two and one
 collateral-above : verdict covered (closing (pos 9) (numbers (4 ∷ 5 ∷ 0 ∷ 0 ∷ [])) (pos 48) (record crossing_weights { full = negsuc 13 ∷ pos 1 ∷ [] })) ≡ Failed 9 12

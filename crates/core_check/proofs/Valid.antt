@@ -12,7 +12,7 @@ use Rattle.core_model.specs.Check.{Test, Place, places_of, denominator_test, sig
 use Rattle.core_check.specs.Laws.{ValidShows}
 use Rattle.core_check.proofs.Passing.{holds, place_holds, places-hold, all-left, all-right, all-head, all-tail}
 use Rattle.core_check.proofs.Totals.{bound_terms-total}
-use Rattle.core_check.proofs.Conditions.{eq-true, tested-admissible, tested-worst, tested-weights, tested-refusing}
+use Rattle.core_check.proofs.Holding.{eq-true, tested-admissible, tested-worst, tested-weights, tested-refusing}
 use Rattle.core_check.proofs.Least.{bounding_shows}
 use Rattle.core_check.proofs.Weak.{refusing_shows}
 
@@ -47,7 +47,8 @@ calendar-tested c d a loss e =
       limits = places-hold 5 1 (by_instrument_and_day c (limit_test c d a)) (all-right place_holds (two ++ three ++ four) five to_five);
       pools = places-hold 6 1 (by_pool_and_day c (pool_test c d a)) (all-right place_holds (two ++ three ++ four ++ five) six to_six);
       losses = places-hold 7 1 (by_scenario_and_day c (loss_test c d a loss)) (all-right place_holds (two ++ three ++ four ++ five ++ six) seven to_seven);
-      reached = all-head holds (reached_test c d a loss) [] (places-hold 8 1 (reached_test c d a loss ∷ []) (all-right place_holds (two ++ three ++ four ++ five ++ six ++ seven) eight e));
+      reached = all-head holds (reached_test c d a loss) []
+          (places-hold 8 1 (reached_test c d a loss ∷ []) (all-right place_holds (two ++ three ++ four ++ five ++ six ++ seven) eight e));
     }
 
 -- the tests of the weights' places hold
@@ -86,7 +87,7 @@ shows-least c d a loss w sound first second calendar weights =
 
 -- What a valid certificate states is true, be it a calendar with its loss and weights, or weights that refuse.
 pub valid_shows : ValidShows
-valid_shows c (Closes calendar loss w) sound fits valid =
+valid_shows c (Closes calendar loss w) sound valid =
     let dens : List Test = denominator_test calendar.den ∷ denominator_test w.den ∷ [] in
     let one : List Place = places_of 1 1 dens in
     let middle : List Place = calendar_places c calendar.den (amounts_of c calendar) loss in
@@ -99,7 +100,7 @@ valid_shows c (Closes calendar loss w) sound fits valid =
     (calendar-tested c calendar.den (amounts_of c calendar) loss (all-right place_holds one middle to_middle))
     (weights-tested c w w.den (meets_test c w calendar.den loss) (all-right place_holds (one ++ middle) last valid)) in
     record { least = shown.0; loss_is = shown.1; bounding = shown.2; meets = shown.3 }
-valid_shows c (Cannot w) sound fits valid =
+valid_shows c (Cannot w) sound valid =
     let dens : List Test = denominator_test w.den ∷ [] in
     let one : List Place = places_of 1 2 dens in
     let last : List Place = weight_places c w (pos 0) (refuses_test c w) in

@@ -6,6 +6,7 @@ use Rattle.core_sums.specs.Sums.{sum_below, sum_grid}
 use Rattle.core_sums.proofs.Ring.{*ℤ-distr_left, *ℤ-distr_right, *ℤ-middle, *ℤ-pos_one, neg-*ℤ, *ℤ-neg}
 use Rattle.core_sums.proofs.SumLaws.{sum_below-cong, sum_below-swap}
 use Rattle.core_sums.proofs.Order.{times-le}
+use Rattle.core_sums.proofs.Grids.{sum_grid-cong, sum_grid-le, sum_grid-plus, sum_grid-scale, sum_grid-zero}
 use Rattle.core_case.specs.View.{CaseView, line, member, pool, limit, no_member}
 use Rattle.core_case.specs.Kept.{IsCase}
 use Rattle.core_model.specs.declared.cert.Weights.{Weights}
@@ -13,9 +14,8 @@ use Rattle.core_model.specs.Closing.{Amounts, line_count, IsAdmissible, closed_o
 use Rattle.core_model.specs.Bounds.{limit_weight, pool_weight, pool_charge, full_weight, scenario_weight, AreWeights, AreRefusing, sum_losses, sum_limits, sum_pools, bound}
 use Rattle.core_flows.specs.Laws.{paid_units}
 use Rattle.core_flows.proofs.CashLaw.{cash_by_units}
-use Rattle.core_sums.proofs.Grids.{sum_grid-cong, sum_grid-le, sum_grid-plus, sum_grid-scale, sum_grid-zero}
 use Rattle.core_check.proofs.Duality.{weighted_paid, weighted_paid-le}
-use Rattle.core_check.proofs.Charges.{day_charge, charges-split, charges-by_instrument, limit-le, full_charge-le, grouped-factor, reordered}
+use Rattle.core_check.proofs.Charging.{day_charge, charges-split, charges-by_instrument, limit-le, full_charge-le, grouped-factor, reordered}
 
 -- the charges of the pools, by day and pool
 pool-regrouped : (c : CaseView) (w : Weights) (a : Amounts) → IsCase c
@@ -73,15 +73,18 @@ losses-split c d a w sound admissible =
     let inner : sum_grid (length c.scenarios) (suc c.last) (λ k t. (d *ℤ (scenario_weight c w k t *ℤ fixed c t)) +ℤ (scenario_weight c w k t *ℤ paid_units c a k t))
     ≡ sum_grid (length c.scenarios) (suc c.last) (λ k t. d *ℤ (scenario_weight c w k t *ℤ fixed c t)) +ℤ weighted_paid c w a =
     sum_grid-plus (length c.scenarios) (suc c.last) (λ k t. d *ℤ (scenario_weight c w k t *ℤ fixed c t)) (λ k t. scenario_weight c w k t *ℤ paid_units c a k t) in
-    let outer : sum_grid (length c.scenarios) (suc c.last) (λ k t. (scenario_weight c w k t *ℤ loss_of c d a k t) +ℤ ((d *ℤ (scenario_weight c w k t *ℤ fixed c t)) +ℤ (scenario_weight c w k t *ℤ paid_units c a k t)))
+    let outer : sum_grid (length c.scenarios) (suc c.last)
+    (λ k t. (scenario_weight c w k t *ℤ loss_of c d a k t) +ℤ ((d *ℤ (scenario_weight c w k t *ℤ fixed c t)) +ℤ (scenario_weight c w k t *ℤ paid_units c a k t)))
     ≡ sum_losses c (λ k t. scenario_weight c w k t *ℤ loss_of c d a k t)
     +ℤ sum_grid (length c.scenarios) (suc c.last) (λ k t. (d *ℤ (scenario_weight c w k t *ℤ fixed c t)) +ℤ (scenario_weight c w k t *ℤ paid_units c a k t)) =
     sum_grid-plus (length c.scenarios) (suc c.last) (λ k t. scenario_weight c w k t *ℤ loss_of c d a k t)
     (λ k t. (d *ℤ (scenario_weight c w k t *ℤ fixed c t)) +ℤ (scenario_weight c w k t *ℤ paid_units c a k t)) in
-    let nothing : sum_grid (length c.scenarios) (suc c.last) (λ k t. (scenario_weight c w k t *ℤ loss_of c d a k t) +ℤ ((d *ℤ (scenario_weight c w k t *ℤ fixed c t)) +ℤ (scenario_weight c w k t *ℤ paid_units c a k t))) ≡ pos 0 =
+    let nothing : sum_grid (length c.scenarios) (suc c.last)
+    (λ k t. (scenario_weight c w k t *ℤ loss_of c d a k t) +ℤ ((d *ℤ (scenario_weight c w k t *ℤ fixed c t)) +ℤ (scenario_weight c w k t *ℤ paid_units c a k t))) ≡ pos 0 =
     sum_grid-cong (length c.scenarios) (suc c.last)
     (λ k t. (scenario_weight c w k t *ℤ loss_of c d a k t) +ℤ ((d *ℤ (scenario_weight c w k t *ℤ fixed c t)) +ℤ (scenario_weight c w k t *ℤ paid_units c a k t))) (λ k t. pos 0)
-    (λ k t first second. loss-term (scenario_weight c w k t) (fixed c t) (paid_units c a k t) (cash_of c d a k t) d (cash_by_units c d a k t sound admissible first (omega (arith, second))))
+    (λ k t first second. loss-term (scenario_weight c w k t) (fixed c t) (paid_units c a k t) (cash_of c d a k t) d
+    (cash_by_units c d a k t sound admissible first (omega (arith, second))))
     ∙ sum_grid-zero (length c.scenarios) (suc c.last) in
     omega (arith, ints, scaled, inner, outer, nothing)
 

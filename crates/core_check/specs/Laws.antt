@@ -1,5 +1,5 @@
 -- Laws that the crate's public functions state.
-use Rattle.std.specs.Prelude.{◌≡◌, ℤ, ◌*ℤ◌}
+use Rattle.std.specs.Prelude.{◌≡◌, ℕ, ℤ, ◌*ℤ◌}
 use Rattle.core_case.specs.View.{CaseView}
 use Rattle.core_case.specs.Kept.{IsCase}
 use Rattle.core_model.specs.declared.cert.Weights.{Weights}
@@ -7,8 +7,7 @@ use Rattle.core_model.specs.declared.cert.Cert.{Cert}
 use Rattle.core_model.specs.Closing.{Amounts, IsAdmissible, worst_loss, IsLeast, CannotClose}
 use Rattle.core_model.specs.Bounds.{AreBounding, AreRefusing, bound}
 use Rattle.core_model.specs.Shows.{Shows}
-use Rattle.core_model.specs.Fits.{Fits}
-use Rattle.core_model.specs.Check.{IsValid}
+use Rattle.core_model.specs.Check.{IsValid, Failed, verdict}
 
 -- An admissible calendar whose worst loss is what bounding weights give as their bound is least: no admissible
 -- calendar, over any denominator, has a lower worst loss.
@@ -21,6 +20,14 @@ MetBoundShowsLeast =
 abbrev pub RefusingShowsNone : Type 0
 RefusingShowsNone = (c : CaseView) (w : Weights) → IsCase c → AreRefusing c w → CannotClose c
 
--- A valid certificate of a case shows what it states, whatever the width of the numbers that its check takes.
+-- A valid certificate of a case shows what it states. Nothing is asked of the width of its numbers, of those that its
+-- check takes, or of the length of its lists.
 abbrev pub ValidShows : Type 0
-ValidShows = (c : CaseView) (cert : Cert) → IsCase c → Fits c cert → IsValid c cert → Shows c cert
+ValidShows = (c : CaseView) (cert : Cert) → IsCase c → IsValid c cert → Shows c cert
+
+-- A certificate that shows what it states is valid: the check asks for nothing more. None of its places fails, so that
+-- besides want of memory only a number that leaves 128 bits can keep the check from accepting it.
+abbrev pub ShowingIsValid : Type 0
+ShowingIsValid =
+    (c : CaseView) (cert : Cert) → IsCase c → Shows c cert
+    → IsValid c cert × ((condition place : ℕ) → verdict c cert ≡ Failed condition place → ⊥)

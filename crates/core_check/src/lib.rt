@@ -1,10 +1,64 @@
-//! What a certificate and its weights show of a case, whoever made them and however wide their numbers are.
+//! The check of a certificate, and what a certificate and its weights show of a case, whoever made them and however
+//! wide their numbers are.
 //!
 //! Weights are dual values of the close-out as a linear programme. That their bound is below every loss is weak
 //! duality, and that refusing weights leave no calendar is one direction of Farkas' lemma (Farkas 1902).
 #![tactic(auto)]
 
-ghost use Rattle.core_check.specs.Laws.{MetBoundShowsLeast, RefusingShowsNone, ValidShows};
+mod bounds;
+mod cash;
+mod cells;
+mod charges;
+mod closings;
+mod conditions;
+mod fault;
+mod places;
+mod ratios;
+mod sums;
+#[cfg(test)]
+mod tests;
+mod weights;
+
+ghost use Rattle.std.specs.Prelude.{◌≡◌, OnOk, IfErr};
+ghost use Rattle.core_case.specs.Kept.{IsCase};
+ghost use Rattle.core_model.specs.Fits.{Fits};
+ghost use Rattle.core_model.specs.Shows.{Shows};
+ghost use Rattle.core_model.specs.Check.{verdict, Passed};
+ghost use Rattle.core_check.specs.Answers.{Refuses};
+ghost use Rattle.core_check.specs.Laws.{MetBoundShowsLeast, RefusingShowsNone, ShowingIsValid, ValidShows};
+
+use conditions::check_cert;
+use core_case::Case;
+use core_flows::Flows;
+use core_model::Cert;
+pub use fault::CheckFault;
+use std::alloc::Global;
+
+/// Judges a certificate of a case: Ok says that it shows what it states.
+///
+/// The twelve conditions are gone through in order, and the places of each in order. A place passes where no product and
+/// no sum of it, each from 0 on in the order of its terms, is above 2^127 - 1 in absolute value, and where it holds. The
+/// answer is Ok exactly where all places pass; otherwise it names the first that does not, `TooWide` where one of its
+/// numbers is too large and `No` where it does not hold.
+///
+/// For a calendar the conditions are: (1) both denominators are at least 1; (2) no amount is below 0, and (3) none is
+/// there on a day that is not allowed; (4) each position is closed in full, and collateral at most in full; (5) each
+/// limit and (6) each pool's cap is kept; (7) no loss of any scenario and day is above the stated one, and (8) one
+/// reaches it. For weights: (9) they have their signs; (10) the scenario weights sum to their denominator, or to 0 where
+/// they refuse; (11) each allowed closing is charged at least the full weight of its line; (12) the bound is the loss,
+/// or above 0 where they refuse.
+///
+/// Memory is taken for the flows of the case alone, before the first condition.
+pub fn check(alloc: Global, case: &Case, cert: &Cert) -> Result<(), CheckFault>
+    requires kept { IsCase case.now }
+    requires fits { Fits case.now cert.now }
+    ensures passed { OnOk result (verdict case.now cert.now ≡ Passed) }
+    ensures refused { IfErr result (Refuses (verdict case.now cert.now)) }
+    ensures shows { OnOk result (Shows case.now cert.now) }
+{
+    let flows = Flows::make(alloc, case)?;
+    check_cert(case, &flows, cert)
+}
 
 /// The law of bounding weights: an admissible calendar whose worst loss meets their bound is least.
 pub fn weights_bound()
@@ -19,4 +73,10 @@ pub fn weights_refuse()
 /// The law of valid certificates: a certificate that holds at every place of the check is true of its case.
 pub fn valid_law()
     ensures { ValidShows }
+{}
+
+/// The law of showing certificates: a certificate that is true of its case holds at every place of the check. So none
+/// of its places fails, and besides want of memory only a number that leaves 128 bits can keep `check` from accepting it.
+pub fn showing_law()
+    ensures { ShowingIsValid }
 {}

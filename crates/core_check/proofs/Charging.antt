@@ -7,6 +7,7 @@ use Rattle.core_sums.specs.Sums.{sum_below, sum_days, sum_grid}
 use Rattle.core_sums.proofs.Ring.{*ℤ-distr_left, *ℤ_assoc, neg-*ℤ, *ℤ-neg}
 use Rattle.core_sums.proofs.SumLaws.{sum_below-cong, sum_below-scale, sum_below-swap, sum_below-le}
 use Rattle.core_sums.proofs.Order.{times-le, sum_below-grouped}
+use Rattle.core_sums.proofs.Grids.{sum_grid-cong, sum_grid-le, sum_grid-plus, sum_grid-scale}
 use Rattle.core_case.specs.View.{CaseView, line, instrument_of, limit, no_line}
 use Rattle.core_case.specs.Kept.{IsCase}
 use Rattle.core_case.specs.declared.parts.Side.{Side}
@@ -14,7 +15,6 @@ use Rattle.core_case.specs.declared.parts.Side.TheVariants.{Position, Collateral
 use Rattle.core_model.specs.declared.cert.Weights.{Weights}
 use Rattle.core_model.specs.Closing.{Amounts, line_count, IsAdmissible, ClosesLine, closed_of}
 use Rattle.core_model.specs.Bounds.{limit_weight, pool_charge, full_weight, AreWeights, sum_limits}
-use Rattle.core_sums.proofs.Grids.{sum_grid-cong, sum_grid-le, sum_grid-plus, sum_grid-scale}
 use Rattle.core_check.proofs.Duality.{free_charge}
 
 -- a factor before a choice whose other value is nought
@@ -54,7 +54,8 @@ charges-split c w a =
     (sum_below-cong (line_count c) (λ l. full_weight w l *ℤ sum_days c.horizon (a l)) (λ l. sum_below c.horizon (λ j. full_weight w l *ℤ a l (suc j)))
     (λ l first. sym (sum_below-scale c.horizon (full_weight w l) (λ j. a l (suc j)))))
     ∙ sym (sum_grid-plus (line_count c) c.horizon (λ l j. a l (suc j) *ℤ free_charge c w l j) (λ l j. full_weight w l *ℤ a l (suc j)))
-    ∙ sum_grid-cong (line_count c) c.horizon (λ l j. (a l (suc j) *ℤ free_charge c w l j) +ℤ (full_weight w l *ℤ a l (suc j))) (λ l j. a l (suc j) *ℤ day_charge c w (instrument_of c l) j)
+    ∙ sum_grid-cong (line_count c) c.horizon (λ l j. (a l (suc j) *ℤ free_charge c w l j) +ℤ (full_weight w l *ℤ a l (suc j)))
+    (λ l j. a l (suc j) *ℤ day_charge c w (instrument_of c l) j)
     (λ l j first second. apart (a l (suc j)) (day_charge c w (instrument_of c l) j) (full_weight w l))
 
 -- the full weight of a line times its amount is at most that times what is closed

@@ -65,7 +65,7 @@ tested-admissible c d a one signs allowed full limits pools = record {
 }
 
 -- the loss of an admissible calendar as the check sums it
-listed-loss : (c : CaseView) (d : ℤ) (a : Amounts) (k t : ℕ) → IsCase c → IsAdmissible c d a → k < length c.scenarios → t ≤ c.last
+pub listed-loss : (c : CaseView) (d : ℤ) (a : Amounts) (k t : ℕ) → IsCase c → IsAdmissible c d a → k < length c.scenarios → t ≤ c.last
     → neg_ℤ (total (cash_terms c d a k t)) ≡ loss_of c d a k t
 listed-loss c d a k t sound admissible first second = ap neg_ℤ (cash_terms-total c d a k t ∙ sym (cash_by_units c d a k t sound admissible first second))
 

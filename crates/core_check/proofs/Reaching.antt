@@ -1,0 +1,75 @@
+-- Losses at one place after the other: whether one of them is the calendar's, where none of their numbers leaves.
+use Rattle.std.proofs.Common.{◌≡◌, refl, sym, ◌∙◌, ap, ℕ, suc, ◌+◌, ◌*◌, ◌<◌, arith, ℤ, neg_ℤ, Bool, true, false, not, ◌&&◌, ◌||◌, List, [], ◌∷◌, length, map}
+use Rattle.std.proofs.lemmas.Bool.{not-true}
+use Rattle.std.proofs.lemmas.List.{length-map, map-append}
+use Rattle.std.proofs.lemmas.List.Folds.{list_any-append, list_any_at}
+use Rattle.std.specs.Ordering.{int_eq}
+use Rattle.std.specs.List.{list_all, list_any}
+use Rattle.core_sums.specs.Sums.{total}
+use Rattle.core_sums.specs.Places.{below}
+use Rattle.core_sums.specs.Widths.{any_leaves}
+use Rattle.core_sums.proofs.Lists.{length-below, get_or-below}
+use Rattle.core_case.specs.View.{CaseView}
+use Rattle.core_model.specs.Closing.{Amounts}
+use Rattle.core_model.specs.Check.{Test, places_of, cash_terms, loss_test, reached_test, by_scenario_and_day, Passed, Failed, Wide, verdict_of}
+use Rattle.core_check.specs.Cells.{scenario_of, house_day_of}
+use Rattle.core_check.specs.Steps.{LossesStay}
+use Rattle.core_check.proofs.Order.{verdict-first}
+use Rattle.core_check.proofs.Passing.{all-by_index}
+use Rattle.core_check.proofs.Tables.{scenarios-by_place}
+
+-- ---- a test of one place after the other
+
+pub any-none : {A : Type 0} (f : ℕ → A) (p : A → Bool) → list_any p (map f (below 0)) ≡ false
+unfolding below
+any-none f p = refl
+
+pub any-more : {A : Type 0} (n : ℕ) (f : ℕ → A) (p : A → Bool) → list_any p (map f (below n)) ≡ false → p (f n) ≡ false
+    → list_any p (map f (below (n + 1))) ≡ false
+unfolding below
+any-more n f p before here =
+    let next : n + 1 ≡ suc n = omega arith in
+    ap (λ (m : ℕ). list_any p (map f (below m))) next
+    ∙ ap (list_any p) (map-append f (below n) (n ∷ []))
+    ∙ list_any-append p (map f (below n)) (f n ∷ [])
+    ∙ ap (λ b. b || (p (f n) || false)) before
+    ∙ ap (λ b. b || false) here
+
+pub any-at : {A : Type 0} (n i : ℕ) (f : ℕ → A) (p : A → Bool) → i < n → p (f i) ≡ true → list_any p (map f (below n)) ≡ true
+any-at n i f p under here =
+    let long : length (map f (below n)) ≡ n = length-map (below n) f ∙ length-below n in
+    list_any_at p (map f (below n)) i (f i) (omega (arith, under, long)) (ap p (get_or-below n i f (f i) under) ∙ here)
+
+-- ---- the calendar's loss
+
+-- the cash at a place
+abbrev pub cash_of_place : CaseView → ℤ → Amounts → ℕ → ℤ
+cash_of_place c d a p = total (cash_terms c d a (scenario_of c p) (house_day_of c p))
+
+-- the loss at some place before n is the calendar's
+abbrev pub reached_before : CaseView → ℤ → Amounts → ℤ → ℕ → Bool
+reached_before c d a loss n = list_any (λ cash. int_eq (neg_ℤ cash) loss) (map (cash_of_place c d a) (below n))
+
+pub reached-places : (c : CaseView) (d : ℤ) (a : Amounts) (loss : ℤ) → reached_before c d a loss (length c.scenarios * suc c.last) ≡ (reached_test c d a loss).holds
+reached-places c d a loss = ap (list_any (λ cash. int_eq (neg_ℤ cash) loss)) (sym (scenarios-by_place c (λ k t. total (cash_terms c d a k t))))
+
+-- ---- places that pass
+
+-- no number of a test leaves
+abbrev pub stays : Test → Bool
+stays x = not (any_leaves x.numbers)
+
+-- where no place stops the check, no number leaves
+passed-stay : (condition first : ℕ) (xs : List Test) → verdict_of (places_of condition first xs) ≡ Passed → list_all stays xs ≡ true
+unfolding places_of verdict_of
+passed-stay condition first [] e = refl
+passed-stay condition first (x ∷ xs) e =
+    let here =
+    verdict-first (any_leaves x.numbers) x.holds (Wide condition first) (Failed condition first) (verdict_of (places_of condition (suc first) xs)) e (λ clash. cc) (λ clash. cc) in
+    ap (λ b. not b && list_all stays xs) here.0 ∙ passed-stay condition (suc first) xs here.2
+
+-- Where each loss is at most the calendar's, no number of any of them leaves.
+pub covered-stay : (c : CaseView) (d : ℤ) (a : Amounts) (loss : ℤ) → verdict_of (places_of 7 1 (by_scenario_and_day c (loss_test c d a loss))) ≡ Passed → LossesStay c d a loss
+covered-stay c d a loss e k t scenario day =
+    not-true (any_leaves (loss_test c d a loss k t).numbers)
+    (all-by_index (length c.scenarios) (suc c.last) (loss_test c d a loss) stays (passed-stay 7 1 (by_scenario_and_day c (loss_test c d a loss)) e) k t scenario (omega (arith, day)))

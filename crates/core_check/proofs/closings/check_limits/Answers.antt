@@ -1,0 +1,19 @@
+use Rattle.std.proofs.Common.{rules, sym, ◌∙◌, ap, ℕ, length, map}
+use Rattle.core_sums.specs.Places.{below}
+use Rattle.core_model.specs.Bounds.{amounts_of}
+use Rattle.core_model.specs.Check.{places_of, limit_test}
+use Rattle.core_check.specs.Answers.{answer}
+use Rattle.core_check.specs.Cells.{row_of, day_of}
+use Rattle.core_check.proofs.Tables.{instruments-by_place, places-counted}
+use Rattle.core_check.proofs.closings.check_limits.Goals as goal
+
+pub returns : goal.returns
+returns c =
+    let case = c.args.case.now in
+    let x = c.args.calendar.now in
+    let tests = λ (p : ℕ). limit_test case x.den (amounts_of case x) (row_of case p) (day_of case p) in
+    let judged = c.check_each.ensures tests (λ p r under judge. search rules) in
+    let count = places-counted c.instruments.result c.from.result (length case.instruments) case.horizon c.instruments.ensures (c.from.ensures ∙ c.horizon.ensures.value) in
+    judged
+    ∙ ap (λ (n : ℕ). answer (places_of 5 1 (map tests (below n)))) count
+    ∙ ap (λ ts. answer (places_of 5 1 ts)) (sym (instruments-by_place case (limit_test case x.den (amounts_of case x))))

@@ -1,0 +1,18 @@
+use Rattle.std.proofs.Common.{rules, sym, ◌∙◌, ap, ℕ, ◌==◌, pos, [], ◌∷◌, if◌then◌else◌}
+use Rattle.core_sums.specs.Places.{each, below}
+use Rattle.core_case.specs.View.{instrument_of}
+use Rattle.core_model.specs.Closing.{line_count}
+use Rattle.core_model.specs.Bounds.{amounts_of}
+use Rattle.core_check.specs.Steps.{summed}
+use Rattle.core_check.proofs.Lists.{each-empty, map-filter}
+use Rattle.core_check.proofs.closings.day_closed.Goals as goal
+
+pub returns : goal.returns
+returns c =
+    let case = c.args.case.now in
+    let a = amounts_of case c.args.calendar.now in
+    let added = c.add_each.ensures (λ l. []) (λ l. if instrument_of case l == c.args.i then a l c.args.u ∷ [] else []) (λ s l r fits under step. search rules) in
+    added
+    ∙ ap (λ (n : ℕ). summed (pos 0) (each (below n) (λ l. [])) (each (below n) (λ l. if instrument_of case l == c.args.i then a l c.args.u ∷ [] else []))) c.lines.ensures
+    ∙ ap (λ zs. summed (pos 0) zs (each (below (line_count case)) (λ l. if instrument_of case l == c.args.i then a l c.args.u ∷ [] else []))) (each-empty (line_count case))
+    ∙ ap (summed (pos 0) []) (sym (map-filter (λ l. instrument_of case l == c.args.i) (λ l. a l c.args.u) (below (line_count case))))

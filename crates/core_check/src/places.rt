@@ -1,0 +1,34 @@
+// The places of a condition, one after the other.
+ghost use Rattle.std.specs.Prelude.{◌≡◌, ◌+◌, ◌^◌, ◌<◌, ◌≤◌};
+ghost use Rattle.core_check.specs.Answers.{ChecksEach, answer_at};
+
+use crate::fault::CheckFault;
+
+/// The answer of a place, by whether it holds, where None says that a number of it leaves 128 bits.
+pub(crate) fn judge_place(condition: u8, place: u32, holds: Option<bool>) -> Result<(), CheckFault>
+    ensures { result ≡ answer_at condition place holds }
+{
+    match holds {
+        Some(true) => Ok(()),
+        Some(false) => Err(CheckFault::No { condition, place }),
+        None => Err(CheckFault::TooWide { condition, place }),
+    }
+}
+
+/// Goes through so many places of a condition, of which the first has the number `first`, up to the first that does not
+/// hold or of which a number leaves 128 bits. `holds` answers None where one does.
+pub(crate) fn check_each<F: Fn(usize) -> Option<bool>>(
+    condition: u8,
+    first: u32,
+    count: usize,
+    holds: F,
+) -> Result<(), CheckFault>
+    requires callable { (i : _) → i < count → F.pre holds i }
+    requires room { first + count ≤ 2 ^ 32 }
+    ensures { ChecksEach (F.post holds) condition first count result }
+{
+    for i in 0..count {
+        judge_place(condition, first + i as u32, holds(i))?;
+    }
+    Ok(())
+}

@@ -1,0 +1,69 @@
+// The conditions on the signs of the weights and on the sum of the scenario weights.
+ghost use Rattle.std.specs.Prelude.{◌≡◌, ◌+◌, ◌^◌, ◌<◌, pos, int_le, map, length};
+ghost use Rattle.core_sums.specs.Places.{at, below};
+ghost use Rattle.core_case.specs.Kept.{IsCase};
+ghost use Rattle.core_model.specs.Closing.{line_count};
+ghost use Rattle.core_model.specs.Fits.{WeightsFit};
+ghost use Rattle.core_model.specs.Check.{full_sign, places_of, plain, sum_test, weight_tests};
+ghost use Rattle.core_check.specs.Answers.{answer};
+ghost use Rattle.core_check.specs.Steps.{judged};
+
+use crate::cells::number;
+use crate::fault::CheckFault;
+use crate::places::check_each;
+use crate::sums::{add_each, plus};
+use core_case::{Case, Side};
+use core_model::{Numbers, Weights};
+
+/// Whether each of some weights is at least 0, where the signs before are `before` in number.
+fn check_not_negative(before: u32, weights: &Numbers) -> Result<(), CheckFault>
+    requires { 1 + before + length weights.now < 2 ^ 32 }
+    ensures { result ≡ answer (places_of 9 (1 + before) (map (λ p. plain (int_le (pos 0) (at weights.now p))) (below (length weights.now)))) }
+{
+    check_each(9, 1 + before, weights.len(), |place| {
+        Some(number(weights, place) >= 0)
+    })
+}
+
+/// Whether the full weight of a line is at most 0, where the line is collateral.
+fn has_full_sign(case: &Case, weights: &Weights, l: usize) -> bool
+    requires kept { IsCase case.now }
+    requires fits { WeightsFit case.now weights.now }
+    requires line { l < line_count case.now }
+    ensures { result ≡ (full_sign case.now weights.now l).holds }
+{
+    match case.line(l).side {
+        Side::Position => true,
+        Side::Collateral => number(&weights.full, l) <= 0,
+    }
+}
+
+/// Whether each weight has its sign.
+pub(crate) fn check_weight_signs(case: &Case, weights: &Weights) -> Result<(), CheckFault>
+    requires kept { IsCase case.now }
+    requires fits { WeightsFit case.now weights.now }
+    ensures { result ≡ answer (places_of 9 1 (weight_tests case.now weights.now)) }
+{
+    let scenarios = weights.scenario.len() as u32;
+    let limits = weights.limit.len() as u32;
+    let pools = weights.pool.len() as u32;
+    check_not_negative(0, &weights.scenario)?;
+    check_not_negative(scenarios, &weights.limit)?;
+    check_not_negative(scenarios + limits, &weights.pool)?;
+    check_each(9, 1 + scenarios + limits + pools, case.lines(), |l| {
+        Some(has_full_sign(case, weights, l))
+    })
+}
+
+/// Whether the scenario weights have a sum, or None where a sum leaves.
+pub(crate) fn have_sum(case: &Case, weights: &Weights, sum: i128) -> Option<bool>
+    requires kept { IsCase case.now }
+    requires fits { WeightsFit case.now weights.now }
+    ensures { result ≡ judged (sum_test case.now weights.now sum) }
+{
+    let scenario = &weights.scenario;
+    let total = add_each(0, scenario.len(), |total, place| {
+        plus(total, number(scenario, place))
+    })?;
+    Some(total == sum)
+}
