@@ -1,15 +1,18 @@
 -- What the top call owes.
-use Rattle.std.specs.Prelude.{◌≡◌, ◌⊎◌, ℕ, ◌≤◌, List, ℤ, ⊤, true, Option, Some, None, IsSome}
+use Rattle.std.specs.Prelude.{◌≡◌, ◌⊎◌, ℕ, ◌<◌, ◌≤◌, List, length, ℤ, ⊤, true, Option, Some, None, IsSome, Ok, Err}
 use Rattle.core_io.specs.Causes.{Rose, Appends, AppendsPart}
 use Rattle.core_case.specs.View.{CaseView}
 use Rattle.core_model.specs.declared.cert.Calendar.{Calendar}
 use Rattle.core_model.specs.declared.cert.Weights.{Weights}
+use Rattle.core_model.specs.declared.cert.Cert.{Cert}
 use Rattle.core_model.specs.declared.cert.Cert.TheVariants.{Closes, Cannot}
 use Rattle.core_model.specs.Shows.{ShowsLeast, ShowsNone}
+use Rattle.core_model.specs.Check.{IsValid, verdict, Passed, Failed, Wide}
 use Rattle.core_cert.specs.Written.{cert_text}
-use Rattle.core_top.specs.OneFuture.{is_one_future, one_future_cert}
-use Rattle.core_top.specs.Words.{Command, Margin, case_name, command_of}
-use Rattle.core_top.specs.Due.{HasCase, IsDue, cert_status, usage_said, case_fault_said}
+use Rattle.core_cert.specs.Stated.{cert_of_bytes}
+use Rattle.core_top.specs.OneFuture.{is_one_future}
+use Rattle.core_top.specs.Words.{Command, Margin, Check, command_of}
+use Rattle.core_top.specs.Due.{file_limit, HasCase, HasCert, IsDue, Tells, MayAnswer, case_fault_said, cert_fault_said, bad_cert_said, accepted_closes_said, accepted_cannot_said, refused_said, wide_said}
 
 -- What the shelf told and the counts and the held bytes, before the call and after it.
 pub record Around : Type 0 where
@@ -44,18 +47,29 @@ abbrev pub Prints : Around → List ℕ → Type 0
 Prints a text = Appends a.held_before a.held_after text
 
 -- It prints an admissible calendar whose worst loss no admissible calendar undercuts, its loss, and weights that show it.
+-- The text is no longer than a file may be and is read as this certificate, and every condition of the check holds. So
+-- `check` of the case and this text answers neither 9 nor 10.
 pub record PrintsLeast (a : Around) (c : CaseView) : Type 0 where
   pub calendar : Calendar
   pub loss : ℤ
   pub weights : Weights
   pub prints : Prints a (cert_text c (Closes calendar loss weights))
   pub shows : ShowsLeast c calendar loss weights
+  pub fits : length (cert_text c (Closes calendar loss weights)) ≤ file_limit
+  pub reads : cert_of_bytes c (cert_text c (Closes calendar loss weights)) ≡ Ok (Closes calendar loss weights)
+  pub valid : IsValid c (Closes calendar loss weights)
+  pub never_refused : (condition place : ℕ) → verdict c (Closes calendar loss weights) ≡ Failed condition place → ⊥
 
--- It prints weights showing that no calendar is admissible.
+-- It prints weights showing that no calendar is admissible. This text too is no longer than a file may be and is read as
+-- this certificate, every condition of the check holds, and `check` of the case and this text answers neither 9 nor 10.
 pub record PrintsNone (a : Around) (c : CaseView) : Type 0 where
   pub weights : Weights
   pub prints : Prints a (cert_text c (Cannot weights))
   pub shows : ShowsNone c weights
+  pub fits : length (cert_text c (Cannot weights)) ≤ file_limit
+  pub reads : cert_of_bytes c (cert_text c (Cannot weights)) ≡ Ok (Cannot weights)
+  pub valid : IsValid c (Cannot weights)
+  pub never_refused : (condition place : ℕ) → verdict c (Cannot weights) ≡ Failed condition place → ⊥
 
 -- Each answer of `margin` on a book of one future has its cause.
 pub data MarginAnswer (a : Around) (name : List ℕ) (c : CaseView) : ℕ → Type 0 where
@@ -70,38 +84,78 @@ abbrev pub MarginOwes : Around → List (List ℕ) → ℕ → Type 0
 MarginOwes a words status =
     (name : List ℕ) (c : CaseView) → command_of words ≡ Some (Margin name) → HasCase a.told name c → is_one_future c ≡ true → MarginAnswer a name c status
 
--- the shelf tells the bytes of the name that a command reads
-abbrev pub Tells : (List ℕ → Option (List ℕ)) → Option Command → Type 0
-Tells told None = ⊤
-Tells told (Some command) = IsSome (told (case_name command))
+-- `check` accepts a calendar's certificate: no admissible calendar has a lower worst loss than the calendar that the
+-- bytes state, whoever made them.
+pub record AcceptsLeast (a : Around) (cert : List ℕ) (c : CaseView) : Type 0 where
+  pub calendar : Calendar
+  pub loss : ℤ
+  pub weights : Weights
+  pub states : HasCert a.told cert c (Closes calendar loss weights)
+  pub passed : verdict c (Closes calendar loss weights) ≡ Passed
+  pub shows : ShowsLeast c calendar loss weights
+  pub prints : Prints a accepted_closes_said
+
+-- It accepts a certificate that refuses: no calendar is admissible, whoever made the weights that the bytes state.
+pub record AcceptsNone (a : Around) (cert : List ℕ) (c : CaseView) : Type 0 where
+  pub weights : Weights
+  pub states : HasCert a.told cert c (Cannot weights)
+  pub passed : verdict c (Cannot weights) ≡ Passed
+  pub shows : ShowsNone c weights
+  pub prints : Prints a accepted_cannot_said
+
+-- Each answer of `check` on a case that is read has its cause.
+pub data CheckAnswer (a : Around) (case cert : List ℕ) (c : CaseView) : ℕ → Type 0 where
+  accepts_least : AcceptsLeast a cert c → CheckAnswer a case cert c 0
+  accepts_none : AcceptsNone a cert c → CheckAnswer a case cert c 0
+  refuses : (x : Cert) (condition place : ℕ) → HasCert a.told cert c x → verdict c x ≡ Failed condition place → Prints a (refused_said condition place)
+      → CheckAnswer a case cert c 10
+  too_wide : (x : Cert) (condition place : ℕ) → HasCert a.told cert c x → verdict c x ≡ Wide condition place → Prints a (wide_said condition place)
+      → CheckAnswer a case cert c 4
+  too_long : (bytes : List ℕ) → a.told cert ≡ Some bytes → file_limit < length bytes → Prints a (bad_cert_said 0 0) → CheckAnswer a case cert c 9
+  no_cert : (bytes : List ℕ) (row code : ℕ) → a.told cert ≡ Some bytes → length bytes ≤ file_limit → cert_of_bytes c bytes ≡ Err (row, code)
+      → Prints a (bad_cert_said row code) → CheckAnswer a case cert c 9
+  case_read_fault : ShelfRose a case → Prints a case_fault_said → CheckAnswer a case cert c 6
+  cert_read_fault : ShelfRose a cert → Prints a cert_fault_said → CheckAnswer a case cert c 6
+  check_write_fault : SinkRose a → CheckAnswer a case cert c 7
+  check_no_memory : a.held_after ≡ a.held_before → CheckAnswer a case cert c 8
+
+-- What `check` owes on every well-formed case.
+abbrev pub CheckOwes : Around → List (List ℕ) → ℕ → Type 0
+CheckOwes a words status =
+    (case cert : List ℕ) (c : CaseView) → command_of words ≡ Some (Check case cert) → HasCase a.told case c → IsSome (a.told cert) → CheckAnswer a case cert c status
 
 -- The status is that of memory with nothing written, that of a sink that failed in the middle of the text that
--- was due, or the one that is due, with its text.
-pub data Answered (a : Around) (command : Option Command) : ℕ → Type 0 where
-  unanswered : a.held_after ≡ a.held_before → Answered a command 8
-  cut : (status : ℕ) (text : List ℕ) → IsDue a.told (ShelfRose a) command status text → SinkRose a → AppendsPart a.held_before a.held_after text → Answered a command 7
-  written : (status : ℕ) (text : List ℕ) → IsDue a.told (ShelfRose a) command status text → Prints a text → Answered a command status
+-- was due, or the one that is due, with its text. `due` says which status and text are due, or may be.
+pub data Answered (a : Around) (due : ℕ → List ℕ → Type 0) : ℕ → Type 0 where
+  unanswered : a.held_after ≡ a.held_before → Answered a due 8
+  cut : (status : ℕ) (text : List ℕ) → due status text → SinkRose a → AppendsPart a.held_before a.held_after text → Answered a due 7
+  written : (status : ℕ) (text : List ℕ) → due status text → Prints a text → Answered a due status
 
 abbrev pub IsExact : Around → List (List ℕ) → ℕ → Type 0
-IsExact a words status = Tells a.told (command_of words) → Answered a (command_of words) status
+IsExact a words status = Tells a.told (command_of words) → Answered a (IsDue a.told (ShelfRose a) (command_of words)) status
 
--- Where no count rose, `margin` answers a book of one future with its certificate, or memory ran out.
+-- no count of a name that a command reads rose
+abbrev pub NoneRose : (List ℕ → Type 0) → Option Command → Type 0
+NoneRose rose None = ⊤
+NoneRose rose (Some (Margin case)) = rose case → ⊥
+NoneRose rose (Some (Check case cert)) = (rose case → ⊥) × (rose cert → ⊥)
+
+-- the answer that is due where no name has a fault
+abbrev pub no_fault : List ℕ → Type 0
+no_fault name = ⊥
+
+pub record IsAnswered (a : Around) (command : Option Command) (status : ℕ) : Type 0 where
+  pub text : List ℕ
+  pub due : IsDue a.told no_fault command status text
+  pub prints : Prints a text
+
+-- Where no count rose, the answer is the one that is due by the words and the bytes alone, or memory ran out.
 abbrev pub IsComplete : Around → List (List ℕ) → ℕ → Type 0
 IsComplete a words status =
-    (name : List ℕ) (c : CaseView) → command_of words ≡ Some (Margin name) → HasCase a.told name c → is_one_future c ≡ true → (ShelfRose a name → ⊥) → (SinkRose a → ⊥)
-    → (status ≡ 8) ⊎ ((status ≡ cert_status (one_future_cert c)) × Prints a (cert_text c (one_future_cert c)))
+    Tells a.told (command_of words) → NoneRose (ShelfRose a) (command_of words) → (SinkRose a → ⊥) → (status ≡ 8) ⊎ IsAnswered a (command_of words) status
 
 -- Causes that hold whatever the shelf tells.
-abbrev pub ReadFault : Around → Option Command → Type 0
-ReadFault a None = ⊥
-ReadFault a (Some command) = ShelfRose a (case_name command) × Prints a case_fault_said
-
 pub record HasCauses (a : Around) (words : List (List ℕ)) (status : ℕ) : Type 0 where
-  pub known : (status ≡ 0) ⊎ (status ≡ 1) ⊎ (status ≡ 2) ⊎ (status ≡ 3) ⊎ (status ≡ 6) ⊎ (status ≡ 7) ⊎ (status ≡ 8)
-  pub usage : status ≡ 2 → (command_of words ≡ None) × Prints a usage_said
-  pub no_command : command_of words ≡ None → (status ≡ 2) ⊎ (status ≡ 7) ⊎ (status ≡ 8)
-  pub read : status ≡ 6 → ReadFault a (command_of words)
-  pub write : status ≡ 7 → SinkRose a
-  pub memory : status ≡ 8 → a.held_after ≡ a.held_before
+  pub cause : Answered a (MayAnswer (ShelfRose a) (command_of words)) status
   pub shelf_counts : (name : List ℕ) → a.shelf_before name ≤ a.shelf_after name
   pub sink_count : a.sink_before ≤ a.sink_after

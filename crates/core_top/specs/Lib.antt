@@ -1,4 +1,5 @@
 pub mod OneFuture
 pub mod Words
 pub mod Due
+pub mod Steps
 pub mod Headline

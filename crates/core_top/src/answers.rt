@@ -1,15 +1,14 @@
 // The answers, each a status and a text.
-ghost use Rattle.std.specs.Prelude.{◌≡◌, ◌≤◌, IfOk, length};
+ghost use Rattle.std.specs.Prelude.{◌≡◌, IfOk};
 ghost use Rattle.core_rows.specs.Fields.{row_text};
 ghost use Rattle.core_rows.specs.Written.{IsPlainRow};
 ghost use Rattle.core_case.specs.Kept.{IsCase};
-ghost use Rattle.core_case.specs.Stated.{case_of_bytes};
 ghost use Rattle.core_cert.specs.Written.{cert_text};
 ghost use Rattle.core_top.specs.OneFuture.{IsOneFuture, one_future_cert};
-ghost use Rattle.core_top.specs.Due.{bad_case_said, case_fault_said, case_status, case_text, cert_status, judged_status, judged_text, usage_said};
+ghost use Rattle.core_top.specs.Due.{bad_case_said, case_fault_said, case_status, case_text, cert_status, usage_said};
 
 use crate::one_future::{is_one_future, one_future_cert};
-use core_case::{Case, CaseFault, read_case};
+use core_case::Case;
 use core_cert::write_cert;
 use core_model::Cert;
 use core_rows::{Fields, put_row};
@@ -22,8 +21,11 @@ pub(crate) struct Due {
     pub(crate) text: Vec<u8>,
 }
 
+/// What is due, or that memory ran out before it was made.
+pub(crate) type Answer = Result<Due, AllocError>;
+
 /// A record as the whole output.
-fn said(alloc: Global, status: u8, fields: &Fields) -> Result<Due, AllocError>
+pub(crate) fn said(alloc: Global, status: u8, fields: &Fields) -> Answer
     requires { IsPlainRow fields.now }
     ensures { IfOk result (λ due. (due.status ≡ status) × (due.text.items ≡ row_text fields.now)) }
 {
@@ -33,7 +35,7 @@ fn said(alloc: Global, status: u8, fields: &Fields) -> Result<Due, AllocError>
 }
 
 /// The answer to words that are no command.
-pub(crate) fn usage(alloc: Global) -> Result<Due, AllocError>
+pub(crate) fn usage(alloc: Global) -> Answer
     ensures { IfOk result (λ due. (due.status ≡ 2) × (due.text.items ≡ usage_said)) }
 {
     let mut fields = Fields::make(alloc);
@@ -42,7 +44,7 @@ pub(crate) fn usage(alloc: Global) -> Result<Due, AllocError>
 }
 
 /// The answer where the case could not be read for a fault of the shelf.
-pub(crate) fn case_fault(alloc: Global) -> Result<Due, AllocError>
+pub(crate) fn case_fault(alloc: Global) -> Answer
     ensures { IfOk result (λ due. (due.status ≡ 6) × (due.text.items ≡ case_fault_said)) }
 {
     let mut fields = Fields::make(alloc);
@@ -53,7 +55,7 @@ pub(crate) fn case_fault(alloc: Global) -> Result<Due, AllocError>
 }
 
 /// The answer to a case with a fault.
-pub(crate) fn bad_case(alloc: Global, row: u32, code: u8) -> Result<Due, AllocError>
+pub(crate) fn bad_case(alloc: Global, row: u32, code: u8) -> Answer
     ensures { IfOk result (λ due. (due.status ≡ 3) × (due.text.items ≡ bad_case_said row code)) }
 {
     let mut fields = Fields::make(alloc);
@@ -75,7 +77,7 @@ fn cert_status(cert: &Cert) -> u8
 }
 
 /// The margin of a book of one future.
-fn margin(alloc: Global, case: &Case) -> Result<Due, AllocError>
+fn one_future_margin(alloc: Global, case: &Case) -> Answer
     requires kept { IsCase case.now }
     requires one { IsOneFuture case.now }
     ensures { IfOk result (λ due. (due.status ≡ cert_status (one_future_cert case.now)) × (due.text.items ≡ cert_text case.now (one_future_cert case.now))) }
@@ -88,26 +90,14 @@ fn margin(alloc: Global, case: &Case) -> Result<Due, AllocError>
     })
 }
 
-/// The answer to a case.
-fn judged_case(alloc: Global, case: &Case) -> Result<Due, AllocError>
+/// The answer of `margin` to a case.
+pub(crate) fn margin(alloc: Global, case: &Case) -> Answer
     requires { IsCase case.now }
     ensures { IfOk result (λ due. (due.status ≡ case_status case.now) × (due.text.items ≡ case_text case.now)) }
 {
     if is_one_future(case) {
-        margin(alloc, case)
+        one_future_margin(alloc, case)
     } else {
         bad_case(alloc, 0, 99)
-    }
-}
-
-/// The answer to the bytes of a case.
-pub(crate) fn judged(alloc: Global, bytes: &[u8]) -> Result<Due, AllocError>
-    requires { length bytes.now ≤ 4194304 }
-    ensures { IfOk result (λ due. (due.status ≡ judged_status (case_of_bytes bytes.now)) × (due.text.items ≡ judged_text (case_of_bytes bytes.now))) }
-{
-    match read_case(alloc, bytes) {
-        Ok(case) => judged_case(alloc, &case),
-        Err(CaseFault::Bad { row, code }) => bad_case(alloc, row, code),
-        Err(CaseFault::NoMemory) => Err(AllocError),
     }
 }

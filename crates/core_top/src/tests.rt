@@ -13,13 +13,16 @@ const NO_DAY: &str = "cert,1\ncannot\nweights,1\nfull,IND,position,1\nend\n";
 
 const NO_ROOM: &str = "cert,1\ncannot\nweights,1\nlimit,IND,1,1\nfull,IND,position,1\nend\n";
 
-const OTHER_WORDS: [&[&str]; 7] = [
+const OTHER_WORDS: [&[&str]; 10] = [
     &[],
     &["margin"],
     &["margin", ""],
     &["margin", "C", "-1"],
     &["Margin", "C"],
     &["check", "C"],
+    &["check", "", "C"],
+    &["check", "C", ""],
+    &["check", "C", "C", "C"],
     &["C", "margin"],
 ];
 
@@ -275,6 +278,83 @@ fn answers_reads_and_writes_that_fail(rt: HostRuntime) -> Result<(), Fail> {
             (said.0, said.1.as_str()),
             (status, want),
             "at {name}, {read}, {room}, {piece}, {write}"
+        );
+    }
+    Ok(())
+}
+
+#[test]
+fn judges_a_certificate_for_its_case(rt: HostRuntime) -> Result<(), Fail> {
+    let alloc = rt.alloc();
+    let good = case_text(alloc, GOOD)?;
+    let tight = case_text(alloc, ["2", "MKT,1,1,1", "9", "DOWN", "100,90,90", "10"])?;
+    let newer = good.replace(alloc, "core,1", "core,2")?;
+    let closes = closing_text(alloc, "DOWN", ["10", "100", "2", "10"])?;
+    let short = closing_text(alloc, "DOWN", ["9", "100", "2", "10"])?;
+    let cheap = closing_text(alloc, "DOWN", ["10", "99", "2", "10"])?;
+    let dear = closing_text(alloc, "DOWN", ["10", "101", "2", "10"])?;
+    let early = closing_text(alloc, "DOWN", ["10", "100", "1", "10"])?;
+    let elsewhere = closing_text(alloc, "UP", ["10", "100", "2", "10"])?;
+    let no_loss = closes.replace(alloc, "loss,100\n", "")?;
+    let wide = closes.replace(
+        alloc,
+        "closes,1",
+        "closes,170141183460469231731687303715884105727",
+    )?;
+    for (case, cert, status, want) in [
+        (&good, closes.as_str(), 0, "accepted,closes\n"),
+        (&tight, NO_ROOM, 0, "accepted,cannot\n"),
+        (&good, NO_ROOM, 10, "refused,12,1\n"),
+        (&tight, closes.as_str(), 10, "refused,5,1\n"),
+        (&good, short.as_str(), 10, "refused,4,1\n"),
+        (&good, cheap.as_str(), 10, "refused,7,3\n"),
+        (&good, dear.as_str(), 10, "refused,8,1\n"),
+        (&good, early.as_str(), 10, "refused,11,1\n"),
+        (&good, wide.as_str(), 4, "wide,check,4,1\n"),
+        (&good, "", 9, "bad,cert,1,1\n"),
+        (&good, no_loss.as_str(), 9, "bad,cert,4,4\n"),
+        (&good, elsewhere.as_str(), 9, "bad,cert,7,10\n"),
+        (&newer, "", 3, "bad,case,1,2\n"),
+    ] {
+        let mut shelf = MemShelf::make(alloc);
+        shelf.put("C", case.as_bytes())?;
+        shelf.put("K", cert.as_bytes())?;
+        let sink = MemSink::make(alloc, 1000, 1000)?;
+        let said = answer(alloc, &["check", "C", "K"], &mut shelf, sink)?;
+        assert_eq!(rt; (said.0, said.1.as_str()), (status, want), "at {cert}");
+    }
+    Ok(())
+}
+
+#[test]
+fn answers_reads_and_writes_that_fail_in_a_check(rt: HostRuntime) -> Result<(), Fail> {
+    let alloc = rt.alloc();
+    let good = case_text(alloc, GOOD)?;
+    let closes = closing_text(alloc, "DOWN", ["10", "100", "2", "10"])?;
+    // The names of the case and of the certificate, the read that fails and the sink's room; 0 is no read.
+    for (case, cert, read, room, status, want) in [
+        ("C", "K", 0, 16, 0, "accepted,closes\n"),
+        ("C", "C", 0, 1000, 9, "bad,cert,1,1\n"),
+        ("D", "K", 0, 1000, 6, "fault,read,case\n"),
+        ("C", "D", 0, 1000, 6, "fault,read,cert\n"),
+        ("D", "D", 0, 1000, 6, "fault,read,case\n"),
+        ("K", "D", 0, 1000, 3, "bad,case,1,1\n"),
+        ("C", "K", 2, 1000, 6, "fault,read,case\n"),
+        ("C", "K", 3, 1000, 6, "fault,read,cert\n"),
+        ("C", "K", 4, 1000, 6, "fault,read,cert\n"),
+        ("C", "K", 0, 15, 7, "accepted,closes"),
+        ("C", "D", 0, 5, 7, "fault"),
+    ] {
+        let mut shelf = MemShelf::make(alloc);
+        shelf.put("C", good.as_bytes())?;
+        shelf.put("K", closes.as_bytes())?;
+        shelf.fail_at(read)?;
+        let sink = MemSink::make(alloc, room, 1000)?;
+        let said = answer(alloc, &["check", case, cert], &mut shelf, sink)?;
+        assert_eq!(rt;
+            (said.0, said.1.as_str()),
+            (status, want),
+            "at {case}, {cert}, {read}, {room}"
         );
     }
     Ok(())

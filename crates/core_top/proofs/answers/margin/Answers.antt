@@ -1,8 +1,6 @@
-use Rattle.core_top.proofs.OneFutureFits.{one_future_fits}
+use Rattle.std.proofs.Common.{sym, ◌∙◌}
+use Rattle.core_top.proofs.FirstForm.{one-future}
 use Rattle.core_top.proofs.answers.margin.Goals as goal
 
-pub write_cert-requires-clause-fits : goal.write_cert-requires-clause-fits
-write_cert-requires-clause-fits c = rw c.in_ok-cert.ensures (one_future_fits c.args.case.now c.requires.kept c.requires.one).0
-
-pub write_cert-requires-clause-refusing : goal.write_cert-requires-clause-refusing
-write_cert-requires-clause-refusing c = rw c.in_ok-cert.ensures (one_future_fits c.args.case.now c.requires.kept c.requires.one).1
+pub one_future_margin-requires-clause-one : goal.one_future_margin-requires-clause-one
+one_future_margin-requires-clause-one c = one-future c.args.case.now c.requires (sym c.is_one_future.ensures ∙ c.if-is_one_future.true)
