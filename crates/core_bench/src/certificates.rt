@@ -1,13 +1,13 @@
 // A certificate, read and written.
-ghost use Rattle.std.specs.Prelude.{◌≤◌, length, IfOk};
+ghost use Rattle.std.specs.Prelude.{◌≤◌, length};
 ghost use Rattle.core_model.specs.Fits.{Fits};
 ghost use Rattle.core_cert.specs.Written.{IsPlainlyRefusing};
 
 use crate::clock::{Milliseconds, least_time};
-use crate::file::{case_bytes, case_of};
-use anyhow::{Result, bail};
+use crate::file::{case_of, cert_of, file_bytes};
+use anyhow::Result;
 use core_case::Case;
-use core_cert::{read_cert, write_cert};
+use core_cert::write_cert;
 use core_io::Shelf;
 use core_model::Cert;
 use std::alloc::Global;
@@ -21,9 +21,9 @@ pub fn run<R: Print + AllocGlobal + CpuClock, S: Shelf>(
     cert_name: &str,
 ) -> Result<()> {
     let alloc = rt.alloc();
-    let bytes = case_bytes(alloc, shelf, case_name)?;
+    let bytes = file_bytes(alloc, shelf, case_name)?;
     let case = case_of(alloc, &bytes)?;
-    let text = case_bytes(alloc, shelf, cert_name)?;
+    let text = file_bytes(alloc, shelf, cert_name)?;
     let cert = cert_of(alloc, &case, &text)?;
     let read = least_time(rt, || read_once(alloc, &case, &text))?;
     let write = least_time(rt, || write_once(alloc, &case, &cert))?;
@@ -31,18 +31,6 @@ pub fn run<R: Print + AllocGlobal + CpuClock, S: Shelf>(
     rt.println(format_args!("read,{}", Milliseconds(read)))?;
     rt.println(format_args!("write,{}", Milliseconds(write)))?;
     Ok(())
-}
-
-// The certificate that a text states for a case.
-fn cert_of(alloc: Global, case: &Case, text: &[u8]) -> Result<Cert>
-    requires { length text.now ≤ 4194304 }
-    ensures fits { IfOk result (Fits case.now) }
-    ensures plain { IfOk result IsPlainlyRefusing }
-{
-    match read_cert(alloc, case, text) {
-        Ok(cert) => Ok(cert),
-        Err(fault) => bail!("no certificate was read: {fault:?}"),
-    }
 }
 
 // Reads the certificate and lets it go.

@@ -4,7 +4,7 @@ ghost use Rattle.core_model.specs.Fits.{CalendarFits};
 
 use crate::calendar::even_calendar;
 use crate::clock::{Milliseconds, least_time};
-use crate::file::{case_bytes, case_of};
+use crate::file::{case_of, file_bytes};
 use anyhow::{Result, bail};
 use core_case::Case;
 use core_flows::Flows;
@@ -21,7 +21,7 @@ pub fn run<R: Print + AllocGlobal + CpuClock, S: Shelf>(
     name: &str,
 ) -> Result<()> {
     let alloc = rt.alloc();
-    let bytes = case_bytes(alloc, shelf, name)?;
+    let bytes = file_bytes(alloc, shelf, name)?;
     let case = case_of(alloc, &bytes)?;
     let calendar = even_calendar(alloc, &case)?;
     let make = least_time(rt, || make_flows(alloc, &case))?;

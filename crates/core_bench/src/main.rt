@@ -1,10 +1,11 @@
 //! Times what its words name: `core_bench fractions`, or `core_bench reading FILE` and `core_bench flows FILE` for a
-//! file that is a case, or `core_bench certificates FILE CERT` for a case and a certificate of it. It prints nothing
-//! without words.
+//! file that is a case, or `core_bench certificates FILE CERT` and `core_bench check FILE CERT` for a case and a
+//! certificate of it. It prints nothing without words.
 #![tactic(auto)]
 
 mod calendar;
 mod certificates;
+mod checks;
 mod clock;
 mod file;
 mod flows;
@@ -28,8 +29,11 @@ fn main(rt: HostRuntime) -> Result<()> {
         [name, file, cert] if name.as_str() == "certificates" => {
             certificates::run(&rt, &mut shelf, file.as_str(), cert.as_str())
         }
+        [name, file, cert] if name.as_str() == "check" => {
+            checks::run(&rt, &mut shelf, file.as_str(), cert.as_str())
+        }
         _ => bail!(
-            "the words are `fractions`, `reading FILE`, `flows FILE` or `certificates FILE CERT`"
+            "the words are `fractions`, `reading FILE`, `flows FILE`, `certificates FILE CERT` or `check FILE CERT`"
         ),
     }
 }

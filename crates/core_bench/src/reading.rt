@@ -2,7 +2,7 @@
 ghost use Rattle.std.specs.Prelude.{◌≤◌, length};
 
 use crate::clock::{Milliseconds, least_time};
-use crate::file::{case_bytes, case_of};
+use crate::file::{case_of, file_bytes};
 use anyhow::{Result, bail};
 use core_io::Shelf;
 use core_rows::records;
@@ -18,7 +18,7 @@ pub fn run<R: Print + AllocGlobal + CpuClock, S: Shelf>(
     name: &str,
 ) -> Result<()> {
     let alloc = rt.alloc();
-    let bytes = case_bytes(alloc, shelf, name)?;
+    let bytes = file_bytes(alloc, shelf, name)?;
     let plain = least_time(rt, || count_fields(alloc, &bytes))?;
     let rows = least_time(rt, || count_records(alloc, &bytes))?;
     let case = least_time(rt, || count_lines(alloc, &bytes))?;
