@@ -11,7 +11,8 @@ use Rattle.core_days.specs.Days.{IsPayDay, pay_day}
 use Rattle.core_days.proofs.PayDays.{pay_day-shows}
 use Rattle.core_replay.specs.Ledger.{is_on, is_paid_on, flows_of_day, flows_until}
 use Rattle.core_replay.specs.Steps.{with_flow, AreDue}
-use Rattle.core_replay.proofs.Leaving.{append-none, each-days_to-more}
+use Rattle.std.proofs.lemmas.List.{append-nil}
+use Rattle.core_sums.proofs.Joined.{each-days_to-more}
 
 -- a pay day is not before the day, and is a house day
 pub pays-within : (c : CaseView) (i v w : ℕ) → pays c i v ≡ Some w → (v ≤ w) × (w ≤ c.last)
@@ -74,7 +75,7 @@ due-more c d a k v l due within before = by_day (pays c (instrument_of c l) (suc
     same w o e off low =
         before.each w low
         ∙ ap (λ xs. flows_until c d a k w v ++ xs)
-        (sym (more w o e ∙ ap (λ b. flows_of_day c d a k w (suc v) l ++ (if b then flow c d a k l (suc v) ∷ [] else [])) off ∙ append-none (flows_of_day c d a k w (suc v) l)))
+        (sym (more w o e ∙ ap (λ b. flows_of_day c d a k w (suc v) l ++ (if b then flow c d a k l (suc v) ∷ [] else [])) off ∙ append-nil (flows_of_day c d a k w (suc v) l)))
 
     by_day : (o : Option ℕ) → pays c (instrument_of c l) (suc v) ≡ o → AreDue c d a k v (suc l) (with_flow due o (flow c d a k l (suc v)))
     by_day None e = record { count = before.count; each = λ w low. same w None e refl low }
@@ -106,13 +107,13 @@ due-done c d a k v n due e before = record {
   each = λ w low.
       before.each w low ∙ ap (λ (m : ℕ). flows_until c d a k w v ++ flows_of_day c d a k w (suc v) m) e
       ∙ sym (each-days_to-more v (λ u. flows_of_day c d a k w u (line_count c)))
-      ∙ sym (ap (λ xs. flows_until c d a k w (suc v) ++ xs) (flows_of_day-none c d a k w (suc (suc v))) ∙ append-none (flows_until c d a k w (suc v)));
+      ∙ sym (ap (λ xs. flows_until c d a k w (suc v) ++ xs) (flows_of_day-none c d a k w (suc (suc v))) ∙ append-nil (flows_until c d a k w (suc v)));
 }
 
 -- what is due on a day
 pub due-at : (c : CaseView) (d : ℤ) (a : Amounts) (k v w : ℕ) (due : List (List ℤ)) → w ≤ c.last → AreDue c d a k v 0 due → row_at due w ≡ flows_until c d a k w v
 due-at c d a k v w due low before =
-    before.each w low ∙ ap (λ xs. flows_until c d a k w v ++ xs) (flows_of_day-none c d a k w (suc v)) ∙ append-none (flows_until c d a k w v)
+    before.each w low ∙ ap (λ xs. flows_until c d a k w v ++ xs) (flows_of_day-none c d a k w (suc v)) ∙ append-nil (flows_until c d a k w v)
 
 -- the same, by the day itself
 pub due-step : (c : CaseView) (d : ℤ) (a : Amounts) (k t l : ℕ) (due : List (List ℤ)) → 1 ≤ t → t ≤ c.last → AreDue c d a k (t - 1) l due

@@ -5,14 +5,15 @@ use Rattle.std.proofs.Math.IntN.{*ℤ-zero}
 use Rattle.std.proofs.lemmas.Bool.{le-leb, lt-leb}
 use Rattle.core_sums.specs.Widths.{any_leaves}
 use Rattle.core_replay.specs.Ledger.{closing_numbers}
-use Rattle.core_replay.proofs.Leaving.{first-leaves, none-one}
+use Rattle.core_sums.proofs.Leaving.{first-leaves, none-one}
 use Rattle.core_days.specs.Days.{open_day_before}
 use Rattle.core_sums.specs.Sums.{sum_below, sum_days}
 use Rattle.core_case.specs.View.{CaseView, instrument, line, instrument_of, price, is_open, day_before}
 use Rattle.core_case.specs.declared.parts.Kind.{Kind}
 use Rattle.core_case.specs.declared.parts.Kind.TheVariants.{Future, Security}
 use Rattle.core_model.specs.Closing.{Amounts, size, still_open, flow_by, flow}
-use Rattle.core_replay.specs.Steps.{unit_by, unit_of, base_by, base_of, Leaves, Stays}
+use Rattle.core_wide.specs.Steps.{Leaves, Stays}
+use Rattle.core_replay.specs.Steps.{unit_by, unit_of, base_by, base_of}
 
 by_kind : (kind : Kind) (c : CaseView) (d : ℤ) (a : Amounts) (k l t : ℕ) → flow_by kind c d a k l t ≡ unit_by kind c k l t *ℤ base_by kind c d a l t
 by_kind Future c d a k l t = refl

@@ -1,10 +1,8 @@
-pub mod Sizes
-pub mod Leaving
-pub mod Sums
-pub mod Flows
-pub mod Dues
-pub mod Totals
-pub mod Standing
-pub mod Running
-pub mod FirstWorst
-pub mod Rows
+mod Sizes
+mod Flows
+mod Dues
+mod Totals
+mod Standing
+mod Running
+mod FirstWorst
+mod Rows

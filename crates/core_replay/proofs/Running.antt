@@ -13,7 +13,7 @@ use Rattle.core_replay.specs.Answers.{AreByDay, StopsOn, StopsReplay}
 use Rattle.core_replay.specs.Runs.{AreEntered}
 use Rattle.core_replay.specs.declared.fault.ReplayFault.{ReplayFault}
 use Rattle.core_replay.specs.declared.fault.ReplayFault.TheVariants.{TooWide, NoMemory}
-use Rattle.core_replay.proofs.Leaving.{none-append, left-leaves, right-leaves, rest-leaves}
+use Rattle.core_sums.proofs.Leaving.{none-append, left-leaves, right-leaves, rest-leaves}
 use Rattle.std.proofs.lemmas.List.Folds.{list_any-append}
 use Rattle.core_replay.specs.declared.lines.Standing.{Standing}
 use Rattle.core_replay.proofs.Flows.{day_before-first, day_before-second}

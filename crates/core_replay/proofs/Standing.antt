@@ -7,10 +7,11 @@ use Rattle.core_sums.specs.Widths.{any_leaves}
 use Rattle.core_case.specs.View.{CaseView, line, instrument_of}
 use Rattle.core_model.specs.Closing.{Amounts, line_count}
 use Rattle.core_replay.specs.Ledger.{opening_numbers, line_numbers, lines_numbers}
-use Rattle.core_replay.specs.Steps.{IsStanding, AreStanding, no_standing, Stays, Leaves}
+use Rattle.core_wide.specs.Steps.{Stays, Leaves}
+use Rattle.core_replay.specs.Steps.{IsStanding, AreStanding, no_standing}
 use Rattle.core_replay.specs.declared.lines.Standing.{Standing}
 use Rattle.core_replay.proofs.Flows.{still_open-first, day_before-first}
-use Rattle.core_replay.proofs.Leaving.{none-below, one-of-below, none-each, one-of-each}
+use Rattle.core_sums.proofs.Leaving.{none-below, one-of-below, none-each, one-of-each}
 
 -- a flow is put behind those of its day
 pub put-view : (vs : List (Vec ℤ Global)) (due : List (List ℤ)) (i : ℕ) (old new : Vec ℤ Global) (x : ℤ) → map (λ v. v.items) vs ≡ due → i < length due → length vs ≡ length due

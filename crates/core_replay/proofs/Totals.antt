@@ -9,8 +9,10 @@ use Rattle.core_case.specs.View.{CaseView, instrument_of, cash, pays}
 use Rattle.core_model.specs.Closing.{Amounts, line_count, flow, fixed, is_by, is_paid_by, cash_of}
 use Rattle.core_replay.specs.Ledger.{is_on, is_paid_on, paid_on, flows_of_day, flows_until, paid_numbers}
 use Rattle.core_sums.specs.Widths.{any_leaves}
-use Rattle.core_replay.specs.Steps.{Leaves, Stays, sum_numbers}
-use Rattle.core_replay.proofs.Leaving.{each-days_to-more, none-append, none-cons, none-one, left-leaves, right-leaves, rest-leaves, first-leaves}
+use Rattle.core_wide.specs.Steps.{Leaves, Stays}
+use Rattle.core_replay.specs.Steps.{sum_numbers}
+use Rattle.core_sums.proofs.Joined.{each-days_to-more}
+use Rattle.core_sums.proofs.Leaving.{none-append, none-cons, none-one, left-leaves, right-leaves, rest-leaves, first-leaves}
 use Rattle.core_replay.proofs.Dues.{pays-within, flows_until-none}
 
 -- the flow of a line on a day where it is paid on day t, else nought

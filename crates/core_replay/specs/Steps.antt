@@ -1,20 +1,12 @@
 -- Where a replay stands between its steps.
 use Rattle.std.specs.Prelude.{◌≡◌, ℕ, suc, ◌<◌, ◌≤◌, ℤ, pos, ◌-ℤ◌, ◌*ℤ◌, true, false, nat_le, List, [], ◌∷◌, ◌++◌, length, get_or, if◌then◌else◌, Option, Some, None, slice_set}
 use Rattle.core_sums.specs.Places.{row_at}
-use Rattle.core_sums.specs.Widths.{most, leaves}
 use Rattle.core_case.specs.View.{CaseView, instrument, instrument_of, cash, day_before, price}
 use Rattle.core_case.specs.declared.parts.Kind.{Kind}
 use Rattle.core_case.specs.declared.parts.Kind.TheVariants.{Future, Security}
 use Rattle.core_model.specs.Closing.{Amounts, line_count, size, still_open, cash_of}
 use Rattle.core_replay.specs.Ledger.{flows_of_day, flows_until, lines_numbers, paid_numbers}
 use Rattle.core_replay.specs.declared.lines.Standing.{Standing}
-
--- the number leaves 128 bits, or stays
-abbrev pub Leaves : ℤ → Type 0
-Leaves z = leaves most z ≡ true
-
-abbrev pub Stays : ℤ → Type 0
-Stays z = leaves most z ≡ false
 
 -- what a unit of a line's flow on an open day is: of a future the change of its price, of a security its price
 abbrev pub unit_by : Kind → CaseView → ℕ → ℕ → ℕ → ℤ

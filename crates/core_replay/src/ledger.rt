@@ -14,9 +14,9 @@ ghost use Rattle.core_replay.specs.Answers.{IsLedger, StopsReplay, StopsOn};
 use crate::due::DueFlows;
 use crate::fault::ReplayFault;
 use crate::lines::{Standing, day_lines, open_lines};
-use crate::steps::{plus, sum_from, times};
 use core_case::Case;
 use core_model::{Calendar, Numbers};
+use core_wide::{plus, sum_from, times};
 use std::alloc::{AllocError, Global};
 
 /// What a calendar pays in a scenario, by house day from 0 to the last, as numerators over `den`: what is paid on the

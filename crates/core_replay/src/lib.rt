@@ -6,7 +6,6 @@ mod fault;
 mod ledger;
 mod lines;
 mod losses;
-mod steps;
 #[cfg(test)]
 mod tests;
 

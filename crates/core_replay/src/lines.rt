@@ -7,14 +7,15 @@ ghost use Rattle.core_model.specs.Closing.{line_count, size, flow, still_open};
 ghost use Rattle.core_model.specs.Bounds.{amounts_of};
 ghost use Rattle.core_model.specs.Fits.{CalendarFits};
 ghost use Rattle.core_replay.specs.Ledger.{opening_numbers, closing_numbers, line_numbers, lines_numbers};
-ghost use Rattle.core_replay.specs.Steps.{unit_of, base_of, IsStanding, AreStanding, AreDue, Leaves, Stays};
+ghost use Rattle.core_wide.specs.Steps.{Leaves, Stays};
+ghost use Rattle.core_replay.specs.Steps.{unit_of, base_of, IsStanding, AreStanding, AreDue};
 ghost use Rattle.core_replay.specs.Answers.{StopsOn};
 
 use crate::due::DueFlows;
 use crate::fault::ReplayFault;
-use crate::steps::{minus, times};
 use core_case::{Case, Kind};
 use core_model::Calendar;
+use core_wide::{minus, times};
 use std::alloc::{AllocError, Global};
 
 /// A line before the closings of a day.

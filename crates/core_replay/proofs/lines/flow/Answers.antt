@@ -4,7 +4,8 @@ use Rattle.std.proofs.lemmas.Int.{to_z-of_z}
 use Rattle.core_case.specs.View.{instrument_of, is_open}
 use Rattle.core_model.specs.Closing.{flow}
 use Rattle.core_model.specs.Bounds.{amounts_of}
-use Rattle.core_replay.specs.Steps.{unit_of, base_of, Leaves, Stays}
+use Rattle.core_wide.specs.Steps.{Leaves, Stays}
+use Rattle.core_replay.specs.Steps.{unit_of, base_of}
 use Rattle.core_replay.proofs.Flows.{flow-open}
 use Rattle.core_replay.proofs.lines.flow.Goals as goal
 

@@ -3,7 +3,7 @@ use mir.Syntax.{w128}
 use Rattle.std.proofs.lemmas.Int.{to_z-of_z}
 use Rattle.core_model.specs.Closing.{still_open}
 use Rattle.core_model.specs.Bounds.{amounts_of}
-use Rattle.core_replay.specs.Steps.{Leaves, Stays}
+use Rattle.core_wide.specs.Steps.{Leaves, Stays}
 use Rattle.core_replay.proofs.Flows.{still_open-more, closing-answer}
 use Rattle.core_replay.proofs.lines.open_after.Goals as goal
 

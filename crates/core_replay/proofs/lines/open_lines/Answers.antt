@@ -4,7 +4,7 @@ use Rattle.std.proofs.lemmas.Int.{to_z-of_z}
 use Rattle.core_case.specs.View.{line}
 use Rattle.core_model.specs.Closing.{line_count}
 use Rattle.core_model.specs.Bounds.{amounts_of}
-use Rattle.core_replay.specs.Steps.{Stays, Leaves}
+use Rattle.core_wide.specs.Steps.{Stays, Leaves}
 use Rattle.core_replay.proofs.Standing.{opened-more, opened-stays, opening-leaves}
 use Rattle.core_replay.proofs.lines.open_lines.Goals as goal
 
