@@ -10,10 +10,11 @@ use Rattle.core_model.specs.Bounds.{scenario_weight, limit_weight, pool_weight, 
 use Rattle.core_model.specs.Check.{by_scenario_and_day, by_instrument_and_day, by_pool_and_day, by_line, bound_terms, meets_test, refuses_test}
 use Rattle.core_model.specs.Fits.{WeightsFit}
 use Rattle.core_check.specs.Cells.{row_of, day_of, scenario_of, house_day_of}
-use Rattle.core_check.specs.Steps.{judged, summed}
-use Rattle.core_check.proofs.Lists.{each-single, map-cong}
+use Rattle.core_wide.specs.Steps.{summed}
+use Rattle.core_check.specs.Steps.{judged}
+use Rattle.core_sums.proofs.Joined.{each-single, map-cong}
 use Rattle.core_check.proofs.Tables.{limit-at, pool-at, scenario-at, scenarios-by_place, instruments-by_place, pools-by_place}
-use Rattle.core_check.proofs.Adding.{part-on, part-ends, same-sum, sum-total}
+use Rattle.core_wide.proofs.Adding.{part-on, part-ends, same-sum, sum-total}
 use Rattle.core_check.proofs.Judging.{sum-stays, sum-leaves}
 
 -- the term at a place of each part

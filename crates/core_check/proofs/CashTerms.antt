@@ -11,9 +11,11 @@ use Rattle.core_model.specs.Closing.{Amounts, line_count, fixed}
 use Rattle.core_model.specs.Bounds.{unit}
 use Rattle.core_model.specs.Check.{cash_terms}
 use Rattle.core_check.specs.Cells.{row_of, day_of, scenario_of, house_day_of, IsScenarioCell}
-use Rattle.core_check.specs.Steps.{Stays, summed, with_product, cash_step}
-use Rattle.core_check.proofs.Lists.{each-cong, each-days, map-filter}
-use Rattle.core_check.proofs.Adding.{Skips, steps-skipped, summed-stays, summed-on, summed-ends, sum_to}
+use Rattle.core_wide.specs.Steps.{Stays, summed, with_product}
+use Rattle.core_check.specs.Steps.{cash_step}
+use Rattle.core_sums.proofs.Joined.{each-cong, each-days, map-filter}
+use Rattle.core_wide.proofs.Adding.{summed-stays, summed-on, summed-ends}
+use Rattle.core_wide.proofs.Stepping.{Skips, steps-skipped, sum_to}
 
 -- ---- what one closing adds
 

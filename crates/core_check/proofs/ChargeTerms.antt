@@ -9,12 +9,13 @@ use Rattle.core_model.specs.Bounds.{unit, scenario_weight, limit_weight, pool_we
 use Rattle.core_model.specs.Check.{members_of_instrument, by_scenario_and_day, plain, of_terms, charge_terms, charge_test}
 use Rattle.core_model.specs.Fits.{IsKept, WeightsFit}
 use Rattle.core_check.specs.Cells.{scenario_of, house_day_of}
-use Rattle.core_check.specs.Steps.{judged, summed, with_product, member_charge, unit_charge}
-use Rattle.core_check.proofs.Lists.{each-single, map-filter, map-cong}
+use Rattle.core_wide.specs.Steps.{summed, with_product}
+use Rattle.core_check.specs.Steps.{judged, member_charge, unit_charge}
+use Rattle.core_sums.proofs.Joined.{each-single, map-filter, map-cong}
 use Rattle.core_check.proofs.Tables.{scenario-at, scenarios-by_place}
-use Rattle.core_check.proofs.Adding.{nothing-added, part-on, part-ends, same-sum, sum-total}
+use Rattle.core_wide.proofs.Adding.{nothing-added, part-on, part-ends, same-sum, sum-total}
 use Rattle.core_check.proofs.Judging.{plain-judged, sum-stays, sum-leaves}
-use Rattle.core_check.proofs.Keeping.{at-kept}
+use Rattle.core_sums.proofs.Kept.{at-kept}
 
 -- the members of an instrument
 members-each : (c : CaseView) (w : Weights) (i u : ℕ)

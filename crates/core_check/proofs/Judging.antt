@@ -6,8 +6,9 @@ use Rattle.core_sums.specs.Sums.{total, partial_sums}
 use Rattle.core_sums.specs.Places.{each}
 use Rattle.core_sums.specs.Widths.{most, leaves, any_leaves}
 use Rattle.core_model.specs.Check.{Test, plain, of_terms}
-use Rattle.core_check.specs.Steps.{Leaves, Stays, summed, judged}
-use Rattle.core_check.proofs.Adding.{some-chosen, none-chosen}
+use Rattle.core_wide.specs.Steps.{Leaves, Stays, summed}
+use Rattle.core_check.specs.Steps.{judged}
+use Rattle.core_wide.proofs.Adding.{some-chosen, none-chosen}
 
 -- a test without numbers
 pub plain-judged : (b : Bool) → Some b ≡ judged (plain b)

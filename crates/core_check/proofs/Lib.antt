@@ -1,18 +1,17 @@
-pub mod Weighted
-pub mod Duality
-pub mod Charging
+mod Weighted
+mod Duality
+mod Charging
 pub mod Weak
 pub mod Least
-pub mod Passing
-pub mod Totals
-pub mod Holding
-pub mod Valid
+mod Passing
+mod PassingLists
+mod Totals
+mod Holding
+mod Valid
 pub mod Showing
-pub mod Verdicts
+mod Verdicts
 mod Rows
 mod Lists
-mod Keeping
-mod Adding
 mod Judging
 mod Order
 mod Tables

@@ -9,7 +9,7 @@ use Rattle.core_check.specs.declared.fault.CheckFault.{CheckFault}
 use Rattle.core_check.specs.declared.fault.CheckFault.TheVariants.{No, TooWide, NoMemory}
 use Rattle.core_check.specs.Steps.{judged}
 use Rattle.core_check.specs.Answers.{Refuses, answer_of, answer, answer_at}
-use Rattle.core_check.proofs.Lists.{below-append}
+use Rattle.core_sums.proofs.Joined.{below-append}
 
 -- places are numbered on behind others
 pub places-append : (condition first : ℕ) (xs ys : List Test)

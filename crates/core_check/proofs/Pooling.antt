@@ -7,8 +7,9 @@ use Rattle.core_sums.specs.Widths.{most, leaves, any_leaves}
 use Rattle.core_case.specs.View.{CaseView, member}
 use Rattle.core_model.specs.Closing.{Amounts}
 use Rattle.core_model.specs.Check.{day_closings}
-use Rattle.core_check.specs.Steps.{summed, with_product, pooled_step, pooled_numbers}
-use Rattle.core_check.proofs.Adding.{some-chosen, none-chosen, summed-none}
+use Rattle.core_wide.specs.Steps.{summed, with_product}
+use Rattle.core_check.specs.Steps.{pooled_step, pooled_numbers}
+use Rattle.core_wide.proofs.Adding.{some-chosen, none-chosen, summed-none}
 use Rattle.core_check.proofs.Judging.{summed-same}
 
 -- the sum after a member, by whether it is one of the pool

@@ -1,16 +1,13 @@
 -- A certificate that shows what it states is valid, and no place of it fails.
-use Rattle.std.proofs.Common.{◌≡◌, refl, sym, ◌∙◌, ap, ℕ, zero, suc, ◌-◌, ◌<◌, ◌≤◌, ◌⊎◌, inl, inr, arith, ℤ, pos, ◌*ℤ◌, neg_ℤ, ◌≤ℤ◌, ◌<ℤ◌, Bool, true, false, ◌&&◌, ◌||◌, int_le, int_lt, List, [], ◌∷◌, ◌++◌, length, map, if◌then◌else◌}
+use Rattle.std.proofs.Common.{◌≡◌, refl, ◌∙◌, ap, ℕ, suc, ◌-◌, ◌<◌, ◌≤◌, arith, ℤ, pos, ◌*ℤ◌, neg_ℤ, ◌≤ℤ◌, ◌<ℤ◌, Bool, true, false, ◌&&◌, ◌||◌, int_le, int_lt, List, [], ◌∷◌, ◌++◌, length, if◌then◌else◌}
 use Rattle.std.proofs.lemmas.Int.{ints}
-use Rattle.std.proofs.lemmas.Bool.{cases_lt}
+use Rattle.std.proofs.lemmas.Bool.{and_from}
 use Rattle.std.proofs.lemmas.Bool.Decides.{Decides-int_eq}
-use Rattle.std.proofs.lemmas.List.Folds.{list_all-append, list_all-map, list_any-append}
 use Rattle.std.specs.Ordering.{int_eq}
-use Rattle.std.specs.List.{list_all, list_any}
+use Rattle.std.specs.List.{list_all}
 use Rattle.core_sums.specs.Sums.{sum_days, total, greatest_to}
-use Rattle.core_sums.specs.Places.{below, days_to, each}
 use Rattle.core_sums.specs.Widths.{any_leaves}
 use Rattle.core_sums.proofs.SumLaws.{greatest_to-reached}
-use Rattle.core_sums.proofs.Lists.{days_to-below}
 use Rattle.core_case.specs.View.{CaseView, line, pool, limit, is_allowed}
 use Rattle.core_case.specs.Kept.{IsCase}
 use Rattle.core_case.specs.declared.parts.Side.{Side}
@@ -21,9 +18,10 @@ use Rattle.core_model.specs.declared.cert.Cert.TheVariants.{Closes, Cannot}
 use Rattle.core_model.specs.Closing.{Amounts, line_count, IsAdmissible, ClosesLine, closed_of, pooled, loss_of, worst_loss}
 use Rattle.core_model.specs.Bounds.{amounts_of, scenario_weight, limit_weight, pool_weight, full_weight, charge, bound, AreWeights}
 use Rattle.core_model.specs.Shows.{Shows}
-use Rattle.core_model.specs.Check.{Test, Place, plain, of_terms, places_of, pairs, closes_line, closings, day_closings, pool_terms, cash_terms, denominator_test, sign_test, allowed_test, full_test, limit_test, pool_test, loss_test, reached_test, is_full_sign, scenario_sign, limit_sign, pool_sign, full_sign, weight_tests, scenario_terms, sum_test, charge_terms, charge_test, bound_terms, meets_test, refuses_test, by_line, by_line_and_day, by_instrument_and_day, by_pool_and_day, by_scenario_and_day, calendar_places, weight_places, places, IsValid, Verdict, Failed, Wide, verdict_of, verdict}
+use Rattle.core_model.specs.Check.{Test, Place, plain, of_terms, places_of, closes_line, closings, day_closings, pool_terms, cash_terms, denominator_test, sign_test, allowed_test, full_test, limit_test, pool_test, loss_test, reached_test, is_full_sign, scenario_sign, limit_sign, pool_sign, full_sign, weight_tests, scenario_terms, sum_test, charge_terms, charge_test, bound_terms, meets_test, refuses_test, by_line, by_line_and_day, by_instrument_and_day, by_pool_and_day, by_scenario_and_day, calendar_places, weight_places, places, IsValid, Verdict, Failed, Wide, verdict_of, verdict}
 use Rattle.core_check.specs.Laws.{ShowingIsValid}
 use Rattle.core_check.proofs.Holding.{listed-loss}
+use Rattle.core_check.proofs.PassingLists.{joined-pass, one-passes, mapped-pass, by_day-pass, by_index-pass, by_index-find}
 use Rattle.core_check.proofs.Passing.{holds, place_holds}
 use Rattle.core_check.proofs.Totals.{total-days, day_closings-total, pool_terms-total, scenario_terms-total, charge_terms-total, bound_terms-total}
 use Rattle.core_check.proofs.Least.{worst_loss-bounds}
@@ -38,69 +36,6 @@ lt-holds x y less = grind (arith, ints, less)
 eq-holds : (x y : ℤ) → x ≡ y → int_eq x y ≡ true
 eq-holds x y same = (Decides-int_eq x y).1 same
 
--- both tests hold
-and-holds : (a b : Bool) → a ≡ true → b ≡ true → (a && b) ≡ true
-and-holds true b first second = second
-and-holds false b first second = first
-
--- one of two tests holds
-or-first : (a b : Bool) → a ≡ true → (a || b) ≡ true
-or-first true b e = refl
-or-first false b e = absurd (cc)
-
-or-second : (a b : Bool) → b ≡ true → (a || b) ≡ true
-or-second true b e = refl
-or-second false b e = e
-
--- two lists pass joined
-joined-pass : {A : Type 0} (p : A → Bool) (xs ys : List A) → list_all p xs ≡ true → list_all p ys ≡ true → list_all p (xs ++ ys) ≡ true
-joined-pass p xs ys first second = list_all-append p xs ys ∙ and-holds (list_all p xs) (list_all p ys) first second
-
--- and so does a list of one item
-one-passes : {A : Type 0} (p : A → Bool) (x : A) → p x ≡ true → list_all p (x ∷ []) ≡ true
-one-passes p x e = and-holds (p x) true e refl
-
--- the numbers below n pass where each does
-below-pass : (n : ℕ) (p : ℕ → Bool) → ((i : ℕ) → i < n → p i ≡ true) → list_all p (below n) ≡ true
-unfolding below
-below-pass zero p each_passes = refl
-below-pass (suc n) p each_passes =
-    joined-pass p (below n) (n ∷ []) (below-pass n p (λ i under. each_passes i (omega (arith, under)))) (one-passes p n (each_passes n (omega arith)))
-
--- the days 1 to n pass where each does
-days-pass : (n : ℕ) (p : ℕ → Bool) → ((u : ℕ) → 1 ≤ u → u ≤ n → p u ≡ true) → list_all p (days_to n) ≡ true
-days-pass n p each_passes =
-    ap (list_all p) (days_to-below n) ∙ list_all-map p suc (below n)
-    ∙ below-pass n (λ j. p (suc j)) (λ j under. each_passes (suc j) (omega arith) (omega (arith, under)))
-
--- f of the numbers below n passes where f of each does
-mapped-pass : {A : Type 0} (n : ℕ) (f : ℕ → A) (p : A → Bool) → ((i : ℕ) → i < n → p (f i) ≡ true) → list_all p (map f (below n)) ≡ true
-mapped-pass n f p each_passes = list_all-map p f (below n) ∙ below-pass n (λ i. p (f i)) each_passes
-
--- all pairs pass where all of the second do for each of the first
-pairs-pass : {A B C : Type 0} (xs : List A) (ys : List B) (f : A → B → C) (p : C → Bool)
-    → list_all (λ x. list_all (λ y. p (f x y)) ys) xs ≡ list_all p (pairs xs ys f)
-unfolding each
-pairs-pass [] ys f p = refl
-pairs-pass (x ∷ xs) ys f p =
-    sym (list_all-append p (map (f x) ys) (pairs xs ys f)
-    ∙ ap (λ b. b && list_all p (pairs xs ys f)) (list_all-map p (f x) ys)
-    ∙ ap (λ b. list_all (λ y. p (f x y)) ys && b) (sym (pairs-pass xs ys f p)))
-
--- f of the indices and days passes where f of each does
-by_day-pass : {A : Type 0} (n h : ℕ) (f : ℕ → ℕ → A) (p : A → Bool) → ((i u : ℕ) → i < n → 1 ≤ u → u ≤ h → p (f i u) ≡ true)
-    → list_all p (pairs (below n) (days_to h) f) ≡ true
-by_day-pass n h f p each_passes =
-    sym (pairs-pass (below n) (days_to h) f p)
-    ∙ below-pass n (λ i. list_all (λ u. p (f i u)) (days_to h)) (λ i under. days-pass h (λ u. p (f i u)) (λ u first last. each_passes i u under first last))
-
--- f of two indices passes where f of each two does
-by_index-pass : {A : Type 0} (n m : ℕ) (f : ℕ → ℕ → A) (p : A → Bool) → ((i j : ℕ) → i < n → j < m → p (f i j) ≡ true)
-    → list_all p (pairs (below n) (below m) f) ≡ true
-by_index-pass n m f p each_passes =
-    sym (pairs-pass (below n) (below m) f p)
-    ∙ below-pass n (λ i. list_all (λ j. p (f i j)) (below m)) (λ i under. below-pass m (λ j. p (f i j)) (λ j within. each_passes i j under within))
-
 -- the places of a condition hold where its tests do
 places-pass : (condition first : ℕ) (xs : List Test) → list_all holds xs ≡ true → list_all place_holds (places_of condition first xs) ≡ true
 unfolding places_of
@@ -111,40 +46,6 @@ places-pass condition first (x ∷ xs) e =
     both : (a b d : Bool) → (a && b) ≡ true → (b ≡ true → d ≡ true) → (a && d) ≡ true
     both true b d held rest = rest held
     both false b d held rest = held
-
--- some number below n passes where one does
-below-finds : (n : ℕ) (p : ℕ → Bool) (i : ℕ) → i < n → p i ≡ true → list_any p (below n) ≡ true
-unfolding below
-below-finds zero p i under e = absurd (omega (arith, under))
-below-finds (suc n) p i under e = list_any-append p (below n) (n ∷ []) ∙ split (λ lower. below-finds n p i lower e) (cases_lt i n)
-  where
-    split : (i < n → list_any p (below n) ≡ true) → (i < n) ⊎ (n ≤ i) → (list_any p (below n) || (p n || false)) ≡ true
-    split rest (inl lower) = or-first (list_any p (below n)) (p n || false) (rest lower)
-    split rest (inr high) =
-        let here : n ≡ i = omega (arith, under, high) in
-        or-second (list_any p (below n)) (p n || false) (or-first (p n) false (ap p here ∙ e))
-
--- some value of f passes where f of some item does
-map-finds : {A B : Type 0} (xs : List A) (f : A → B) (p : B → Bool) → list_any (λ x. p (f x)) xs ≡ list_any p (map f xs)
-map-finds [] f p = refl
-map-finds (x ∷ xs) f p = ap (λ b. p (f x) || b) (map-finds xs f p)
-
--- some pair passes where some of the second does for some of the first
-pairs-find : {A B C : Type 0} (xs : List A) (ys : List B) (f : A → B → C) (p : C → Bool)
-    → list_any (λ x. list_any (λ y. p (f x y)) ys) xs ≡ list_any p (pairs xs ys f)
-unfolding each
-pairs-find [] ys f p = refl
-pairs-find (x ∷ xs) ys f p =
-    ap (λ b. list_any (λ y. p (f x y)) ys || b) (pairs-find xs ys f p)
-    ∙ ap (λ b. b || list_any p (pairs xs ys f)) (map-finds ys (f x) p)
-    ∙ sym (list_any-append p (map (f x) ys) (pairs xs ys f))
-
--- f of some two indices passes where f of two does
-by_index-find : {A : Type 0} (n m : ℕ) (f : ℕ → ℕ → A) (p : A → Bool) (i j : ℕ) → i < n → j < m → p (f i j) ≡ true
-    → list_any p (pairs (below n) (below m) f) ≡ true
-by_index-find n m f p i j first second e =
-    sym (pairs-find (below n) (below m) f p)
-    ∙ below-finds n (λ k. list_any (λ v. p (f k v)) (below m)) i first (below-finds m (λ v. p (f i v)) j second e)
 
 -- an amount is 0 or its closing is allowed
 allowed-holds : (b : Bool) (x : ℤ) → (b ≡ false → x ≡ pos 0) → (b || int_eq x (pos 0)) ≡ true
@@ -285,7 +186,7 @@ showing-valid c (Closes calendar loss w) sound shown =
     let middle : List Place = calendar_places c calendar.den (amounts_of c calendar) loss in
     let last : List Place = weight_places c w w.den (meets_test c w calendar.den loss) in
     let dens : list_all place_holds one ≡ true = places-pass 1 1 (denominator_test calendar.den ∷ denominator_test w.den ∷ [])
-    (and-holds (holds (denominator_test calendar.den)) (list_all holds (denominator_test w.den ∷ [])) (denominator-holds calendar.den admissible.calendar.0)
+    (and_from (holds (denominator_test calendar.den)) (list_all holds (denominator_test w.den ∷ [])) (denominator-holds calendar.den admissible.calendar.0)
     (one-passes holds (denominator_test w.den) (denominator-holds w.den shown.bounding.den))) in
     let meets : holds (meets_test c w calendar.den loss) ≡ true =
     eq-holds (total (bound_terms c w) *ℤ calendar.den) (loss *ℤ w.den) (ap (λ z. z *ℤ calendar.den) (bound_terms-total c w) ∙ shown.meets) in

@@ -14,9 +14,10 @@ use Rattle.core_model.proofs.FewLines.{lines-few}
 use Rattle.core_check.specs.Cells.{row_of, day_of, scenario_of, house_day_of}
 use Rattle.core_check.specs.declared.fault.CheckFault.{CheckFault}
 use Rattle.core_check.specs.Answers.{answer}
-use Rattle.core_check.specs.Steps.{summed}
-use Rattle.core_check.proofs.Lists.{each-single, map-cong}
-use Rattle.core_check.proofs.Adding.{same-sum, sum_to}
+use Rattle.core_wide.specs.Steps.{summed}
+use Rattle.core_sums.proofs.Joined.{each-single, map-cong}
+use Rattle.core_wide.proofs.Adding.{same-sum}
+use Rattle.core_wide.proofs.Stepping.{sum_to}
 use Rattle.core_check.proofs.Order.{places-append, answer-on, answer-ends}
 use Rattle.core_check.proofs.Tables.{limit-at, pool-at, scenario-at, instruments-by_place, pools-by_place, scenarios-by_place}
 

@@ -1,10 +1,9 @@
--- Sums that say when a number leaves 128 bits, and what a place answers.
-use Rattle.std.specs.Prelude.{◌≡◌, ℕ, ◌<◌, ◌≤◌, ℤ, pos, ◌+ℤ◌, ◌*ℤ◌, neg_ℤ, ◌==◌, length, List, [], ◌∷◌, ◌++◌, true, false, Bool, if◌then◌else◌, FitsSigned, Option, Some, None}
-use mir.Syntax.{w128}
-use Rattle.core_sums.specs.Sums.{total, partial_sums}
+-- What a place answers, and what the steps of its sums add.
+use Rattle.std.specs.Prelude.{◌≡◌, ℕ, ◌<◌, ◌≤◌, ℤ, pos, ◌*ℤ◌, neg_ℤ, ◌==◌, length, List, [], ◌∷◌, ◌++◌, false, Bool, if◌then◌else◌, Option, Some, None}
+use Rattle.core_sums.specs.Sums.{partial_sums}
 use Rattle.std.specs.Ordering.{int_eq}
-use Rattle.core_sums.specs.Places.{at, below, each}
-use Rattle.core_sums.specs.Widths.{most, leaves, any_leaves}
+use Rattle.core_sums.specs.Places.{at, each}
+use Rattle.core_sums.specs.Widths.{any_leaves}
 use Rattle.core_case.specs.View.{CaseView, member, is_allowed}
 use Rattle.core_model.specs.declared.cert.Weights.{Weights}
 use Rattle.core_model.specs.Closing.{Amounts}
@@ -12,35 +11,9 @@ use Rattle.core_model.specs.Bounds.{unit, pool_weight}
 use Rattle.core_model.specs.Check.{Test, day_closings, weighted_closing, members_of_pool, pool_terms, loss_test}
 use Rattle.core_check.specs.Cells.{row_of, day_of, scenario_of, house_day_of}
 
--- the number leaves 128 bits, or stays
-abbrev pub Leaves : ℤ → Type 0
-Leaves z = leaves most z ≡ true
-
-abbrev pub Stays : ℤ → Type 0
-Stays z = leaves most z ≡ false
-
--- A sum to which some terms are added one by one, or nothing where one of the sums on the way leaves, or one of the
--- numbers that the terms are made of.
-unfoldable pub summed : ℤ → List ℤ → List ℤ → Option ℤ
-summed start numbers terms = if any_leaves (numbers ++ partial_sums start terms) then None else Some (start +ℤ total terms)
-
--- the sum with one number, and with one that is a product
-abbrev pub with_number : ℤ → ℤ → Option ℤ
-with_number sum x = summed sum [] (x ∷ [])
-
-abbrev pub with_product : ℤ → ℤ → Option ℤ
-with_product sum x = summed sum (x ∷ []) (x ∷ [])
-
 -- whether a test holds, or nothing where a number of it leaves
 unfoldable pub judged : Test → Option Bool
 judged test = if any_leaves test.numbers then None else Some test.holds
-
--- What so many steps answer one after the other, where each adds its terms to the sum.
-abbrev pub AddsEach : (ℤ → ℕ → Option ℤ → Type 0) → ℤ → ℕ → Option ℤ → Type 0
-AddsEach Step start count result =
-    (numbers terms : ℕ → List ℤ)
-    → ((sum : ℤ) (i : ℕ) (r : Option ℤ) → FitsSigned w128 sum → i < count → Step sum i r → r ≡ summed sum (numbers i) (terms i))
-    → result ≡ summed start (each (below count) numbers) (each (below count) terms)
 
 -- what a member adds to the weighted closings of a pool on a day, and the numbers that this takes
 abbrev pub pooled_step : CaseView → Amounts → ℕ → ℕ → ℕ → List ℤ

@@ -7,14 +7,15 @@ ghost use Rattle.core_model.specs.Closing.{fixed, line_count};
 ghost use Rattle.core_model.specs.Fits.{IsKept, WeightsFit};
 ghost use Rattle.core_model.specs.Check.{bound_terms, meets_test, refuses_test};
 ghost use Rattle.core_check.specs.Cells.{day_of, house_day_of, row_of};
-ghost use Rattle.core_check.specs.Steps.{judged, summed, with_product};
+ghost use Rattle.core_wide.specs.Steps.{summed, with_product};
+ghost use Rattle.core_check.specs.Steps.{judged};
 
 use crate::cells::{closing_cell, number, scenario_cell};
 use crate::ratios::is_same_ratio;
-use crate::sums::{add_each, minus_product, plus, plus_product};
 use core_case::Case;
 use core_flows::Flows;
 use core_model::Weights;
+use core_wide::{add_each, minus_product, plus, plus_product};
 
 /// The sum less the weight at a place times the fixed cash up to its day. A weight of 0 costs only a look.
 fn minus_fixed(
@@ -28,7 +29,8 @@ fn minus_fixed(
     requires flows { flows.now ≡ case.now }
     requires fits { WeightsFit case.now weights.now }
     requires place { place < length weights.now.scenario }
-    ensures { result ≡ with_product sum (neg_ℤ (at weights.now.scenario place *ℤ fixed case.now (house_day_of case.now place))) }
+    ensures { result ≡ with_product sum
+        (neg_ℤ (at weights.now.scenario place *ℤ fixed case.now (house_day_of case.now place))) }
 {
     let weight = number(&weights.scenario, place);
     if weight == 0 {
@@ -57,7 +59,9 @@ fn minus_limit(case: &Case, weights: &Weights, sum: i128, place: usize) -> Optio
     requires kept { IsCase case.now }
     requires fits { WeightsFit case.now weights.now }
     requires place { place < length weights.now.limit }
-    ensures { result ≡ with_product sum (neg_ℤ (limit case.now (row_of case.now place) (day_of case.now place) *ℤ at weights.now.limit place)) }
+    ensures { result ≡ with_product sum (neg_ℤ
+        (limit case.now (row_of case.now place) (day_of case.now place)
+        *ℤ at weights.now.limit place)) }
 {
     let weight = number(&weights.limit, place);
     if weight == 0 {
@@ -72,7 +76,8 @@ fn minus_cap(case: &Case, weights: &Weights, sum: i128, place: usize) -> Option<
     requires kept { IsCase case.now }
     requires fits { WeightsFit case.now weights.now }
     requires place { place < length weights.now.pool }
-    ensures { result ≡ with_product sum (neg_ℤ ((pool case.now (row_of case.now place)).cap *ℤ at weights.now.pool place)) }
+    ensures { result ≡ with_product sum
+        (neg_ℤ ((pool case.now (row_of case.now place)).cap *ℤ at weights.now.pool place)) }
 {
     let weight = number(&weights.pool, place);
     if weight == 0 {
@@ -87,7 +92,9 @@ fn bound(case: &Case, flows: &Flows, weights: &Weights) -> Option<i128>
     requires kept { IsCase case.now }
     requires flows { flows.now ≡ case.now }
     requires fits { WeightsFit case.now weights.now }
-    ensures { result ≡ summed (pos 0) (bound_terms case.now weights.now) (bound_terms case.now weights.now) }
+    ensures { result ≡ summed (pos 0)
+        (bound_terms case.now weights.now)
+        (bound_terms case.now weights.now) }
 {
     let fixed = add_each(0, weights.scenario.len(), |sum, place| {
         minus_fixed(case, flows, weights, sum, place)

@@ -8,15 +8,16 @@ ghost use Rattle.core_model.specs.Fits.{CalendarFits, IsKept};
 ghost use Rattle.core_model.specs.Check.{by_scenario_and_day, cash_terms, loss_test, places_of, reached_test};
 ghost use Rattle.core_check.specs.Answers.{answer};
 ghost use Rattle.core_check.specs.Cells.{scenario_of, house_day_of};
-ghost use Rattle.core_check.specs.Steps.{LossesStay, cash_step, judged, summed};
+ghost use Rattle.core_wide.specs.Steps.{summed};
+ghost use Rattle.core_check.specs.Steps.{LossesStay, cash_step, judged};
 
 use crate::cells::{closing_cell, number, scenario_cell};
 use crate::fault::CheckFault;
 use crate::places::{check_each, judge_place};
-use crate::sums::{add_each, plus_product};
 use core_case::Case;
 use core_flows::Flows;
 use core_model::Calendar;
+use core_wide::{add_each, plus_product};
 
 /// The sum and what a closing pays in a scenario by a house day, if it is allowed. A closing of 0 costs only a look.
 fn plus_closing(
@@ -34,7 +35,9 @@ fn plus_closing(
     requires scenario { scenario < length case.now.scenarios }
     requires day { day ≤ case.now.last }
     requires place { place < length calendar.now.amounts }
-    ensures { result ≡ summed sum (cash_step case.now (amounts_of case.now calendar.now) scenario day place) (cash_step case.now (amounts_of case.now calendar.now) scenario day place) }
+    ensures { result ≡ summed sum
+        (cash_step case.now (amounts_of case.now calendar.now) scenario day place)
+        (cash_step case.now (amounts_of case.now calendar.now) scenario day place) }
 {
     let amount = number(&calendar.amounts, place);
     if amount == 0 {
@@ -54,7 +57,9 @@ fn cash(case: &Case, flows: &Flows, calendar: &Calendar, scenario: usize, day: u
     requires fits { CalendarFits case.now calendar.now }
     requires scenario { scenario < length case.now.scenarios }
     requires day { day ≤ case.now.last }
-    ensures { result ≡ summed (pos 0) (cash_terms case.now calendar.now.den (amounts_of case.now calendar.now) scenario day) (cash_terms case.now calendar.now.den (amounts_of case.now calendar.now) scenario day) }
+    ensures { result ≡ summed (pos 0)
+        (cash_terms case.now calendar.now.den (amounts_of case.now calendar.now) scenario day)
+        (cash_terms case.now calendar.now.den (amounts_of case.now calendar.now) scenario day) }
 {
     let fixed = plus_product(0, calendar.den, flows.fixed(day))?;
     add_each(fixed, calendar.amounts.len(), |sum, place| {
@@ -75,7 +80,9 @@ fn is_covered(
     requires fits { CalendarFits case.now calendar.now }
     requires loss { IsKept loss }
     requires place { place < length case.now.scenarios * suc case.now.last }
-    ensures { result ≡ judged (loss_test case.now calendar.now.den (amounts_of case.now calendar.now) loss (scenario_of case.now place) (house_day_of case.now place)) }
+    ensures { result ≡ judged (loss_test
+        case.now calendar.now.den (amounts_of case.now calendar.now) loss
+        (scenario_of case.now place) (house_day_of case.now place)) }
 {
     let (scenario, day) = scenario_cell(case, case.scenarios(), place);
     let cash = cash(case, flows, calendar, scenario, day)?;
@@ -90,7 +97,9 @@ fn is_reached_at(case: &Case, flows: &Flows, calendar: &Calendar, loss: i128, pl
     requires loss { IsKept loss }
     requires place { place < length case.now.scenarios * suc case.now.last }
     requires stays { LossesStay case.now calendar.now.den (amounts_of case.now calendar.now) loss }
-    ensures { result ≡ int_eq (neg_ℤ (total (cash_terms case.now calendar.now.den (amounts_of case.now calendar.now) (scenario_of case.now place) (house_day_of case.now place)))) loss }
+    ensures { result ≡ int_eq (neg_ℤ (total (cash_terms
+        case.now calendar.now.den (amounts_of case.now calendar.now)
+        (scenario_of case.now place) (house_day_of case.now place)))) loss }
 {
     let (scenario, day) = scenario_cell(case, case.scenarios(), place);
     match cash(case, flows, calendar, scenario, day) {
@@ -106,7 +115,8 @@ fn is_reached(case: &Case, flows: &Flows, calendar: &Calendar, loss: i128) -> bo
     requires fits { CalendarFits case.now calendar.now }
     requires loss { IsKept loss }
     requires stays { LossesStay case.now calendar.now.den (amounts_of case.now calendar.now) loss }
-    ensures { result ≡ (reached_test case.now calendar.now.den (amounts_of case.now calendar.now) loss).holds }
+    ensures { result ≡ (reached_test
+        case.now calendar.now.den (amounts_of case.now calendar.now) loss).holds }
 {
     let count = case.scenarios() * (usize::from(case.last()) + 1);
     for place in 0..count {
@@ -128,7 +138,9 @@ fn check_covered(
     requires flows { flows.now ≡ case.now }
     requires fits { CalendarFits case.now calendar.now }
     requires loss { IsKept loss }
-    ensures { result ≡ answer (places_of 7 1 (by_scenario_and_day case.now (loss_test case.now calendar.now.den (amounts_of case.now calendar.now) loss))) }
+    ensures { result ≡ answer
+        (places_of 7 1 (by_scenario_and_day case.now (loss_test
+        case.now calendar.now.den (amounts_of case.now calendar.now) loss))) }
 {
     let count = case.scenarios() * (usize::from(case.last()) + 1);
     check_each(7, 1, count, |place| {
@@ -147,7 +159,11 @@ pub(crate) fn check_loss(
     requires flows { flows.now ≡ case.now }
     requires fits { CalendarFits case.now calendar.now }
     requires loss { IsKept loss }
-    ensures { result ≡ answer (places_of 7 1 (by_scenario_and_day case.now (loss_test case.now calendar.now.den (amounts_of case.now calendar.now) loss)) ++ places_of 8 1 (reached_test case.now calendar.now.den (amounts_of case.now calendar.now) loss ∷ [])) }
+    ensures { result ≡ answer
+        (places_of 7 1 (by_scenario_and_day case.now (loss_test
+        case.now calendar.now.den (amounts_of case.now calendar.now) loss))
+        ++ places_of 8 1 (reached_test
+        case.now calendar.now.den (amounts_of case.now calendar.now) loss ∷ [])) }
 {
     check_covered(case, flows, calendar, loss)?;
     judge_place(8, 1, Some(is_reached(case, flows, calendar, loss)))

@@ -7,15 +7,16 @@ ghost use Rattle.core_model.specs.Fits.{WeightsFit};
 ghost use Rattle.core_model.specs.Check.{by_line_and_day, charge_terms, charge_test, places_of};
 ghost use Rattle.core_check.specs.Answers.{answer};
 ghost use Rattle.core_check.specs.Cells.{row_of, day_of};
-ghost use Rattle.core_check.specs.Steps.{judged, member_charge, summed, unit_charge};
+ghost use Rattle.core_wide.specs.Steps.{summed};
+ghost use Rattle.core_check.specs.Steps.{judged, member_charge, unit_charge};
 
 use crate::cells::{closing_cell, limit_weight, number, pool_weight, scenario_cell};
 use crate::fault::CheckFault;
 use crate::places::check_each;
-use crate::sums::{add_each, minus_product, plus, plus_product};
 use core_case::Case;
 use core_flows::Flows;
 use core_model::Weights;
+use core_wide::{add_each, minus_product, plus, plus_product};
 
 /// The sum and what a member's pool charges, if the member is one of an instrument.
 fn plus_member_charge(
@@ -31,7 +32,9 @@ fn plus_member_charge(
     requires from { 1 ≤ u }
     requires to { u ≤ case.now.horizon }
     requires member { m < length case.now.members }
-    ensures { result ≡ summed sum (member_charge case.now weights.now i u m) (member_charge case.now weights.now i u m) }
+    ensures { result ≡ summed sum
+        (member_charge case.now weights.now i u m)
+        (member_charge case.now weights.now i u m) }
 {
     let member = case.member(m);
     if member.instrument != i {
@@ -57,7 +60,9 @@ fn minus_unit(
     requires line { l < line_count case.now }
     requires closed { is_allowed case.now l u ≡ true }
     requires place { place < length weights.now.scenario }
-    ensures { result ≡ summed sum (unit_charge case.now weights.now l u place) (unit_charge case.now weights.now l u place) }
+    ensures { result ≡ summed sum
+        (unit_charge case.now weights.now l u place)
+        (unit_charge case.now weights.now l u place) }
 {
     let weight = number(&weights.scenario, place);
     if weight == 0 {
@@ -76,7 +81,9 @@ fn charge(case: &Case, flows: &Flows, weights: &Weights, l: usize, u: u8) -> Opt
     requires from { 1 ≤ u }
     requires to { u ≤ case.now.horizon }
     requires closed { is_allowed case.now l u ≡ true }
-    ensures { result ≡ summed (pos 0) (charge_terms case.now weights.now l u) (charge_terms case.now weights.now l u) }
+    ensures { result ≡ summed (pos 0)
+        (charge_terms case.now weights.now l u)
+        (charge_terms case.now weights.now l u) }
 {
     let i = case.line(l).instrument;
     let limit = plus(0, limit_weight(case, weights, i, u))?;
@@ -95,7 +102,8 @@ fn is_charged(case: &Case, flows: &Flows, weights: &Weights, place: usize) -> Op
     requires flows { flows.now ≡ case.now }
     requires fits { WeightsFit case.now weights.now }
     requires place { place < length case.now.lines * case.now.horizon }
-    ensures { result ≡ judged (charge_test case.now weights.now (row_of case.now place) (day_of case.now place)) }
+    ensures { result ≡ judged
+        (charge_test case.now weights.now (row_of case.now place) (day_of case.now place)) }
 {
     let (l, u) = closing_cell(case, case.lines(), place);
     if !case.allowed(l, u) {
@@ -110,7 +118,8 @@ pub(crate) fn check_charges(case: &Case, flows: &Flows, weights: &Weights) -> Re
     requires kept { IsCase case.now }
     requires flows { flows.now ≡ case.now }
     requires fits { WeightsFit case.now weights.now }
-    ensures { result ≡ answer (places_of 11 1 (by_line_and_day case.now (charge_test case.now weights.now))) }
+    ensures { result ≡ answer
+        (places_of 11 1 (by_line_and_day case.now (charge_test case.now weights.now))) }
 {
     let count = case.lines() * usize::from(case.horizon());
     check_each(

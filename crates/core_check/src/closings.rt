@@ -10,20 +10,22 @@ ghost use Rattle.core_model.specs.Fits.{CalendarFits};
 ghost use Rattle.core_model.specs.Check.{allowed_test, by_instrument_and_day, by_line, by_line_and_day, by_pool_and_day, closes_line, closings, day_closings, full_test, limit_test, places_of, pool_test, pool_terms, sign_test};
 ghost use Rattle.core_check.specs.Answers.{answer};
 ghost use Rattle.core_check.specs.Cells.{row_of, day_of};
-ghost use Rattle.core_check.specs.Steps.{judged, summed, pooled_numbers, pooled_step, pool_numbers};
+ghost use Rattle.core_wide.specs.Steps.{summed};
+ghost use Rattle.core_check.specs.Steps.{judged, pooled_numbers, pooled_step, pool_numbers};
 
 use crate::cells::{amount, closing_cell, number};
 use crate::fault::CheckFault;
 use crate::places::check_each;
-use crate::sums::{add_each, plus, plus_product, product};
 use core_case::{Case, Side};
 use core_model::Calendar;
+use core_wide::{add_each, plus, plus_product, times};
 
 /// Whether each amount is at least 0.
 pub(crate) fn check_signs(case: &Case, calendar: &Calendar) -> Result<(), CheckFault>
     requires kept { IsCase case.now }
     requires fits { CalendarFits case.now calendar.now }
-    ensures { result ≡ answer (places_of 2 1 (by_line_and_day case.now (sign_test (amounts_of case.now calendar.now)))) }
+    ensures { result ≡ answer
+        (places_of 2 1 (by_line_and_day case.now (sign_test (amounts_of case.now calendar.now)))) }
 {
     let amounts = &calendar.amounts;
     check_each(
@@ -39,7 +41,8 @@ fn is_allowed(case: &Case, calendar: &Calendar, place: usize) -> bool
     requires kept { IsCase case.now }
     requires fits { CalendarFits case.now calendar.now }
     requires place { place < length calendar.now.amounts }
-    ensures { result ≡ (is_allowed case.now (row_of case.now place) (day_of case.now place) || int_eq (at calendar.now.amounts place) (pos 0)) }
+    ensures { result ≡ (is_allowed case.now (row_of case.now place) (day_of case.now place)
+        || int_eq (at calendar.now.amounts place) (pos 0)) }
 {
     if number(&calendar.amounts, place) == 0 {
         return true;
@@ -52,7 +55,9 @@ fn is_allowed(case: &Case, calendar: &Calendar, place: usize) -> bool
 pub(crate) fn check_allowed(case: &Case, calendar: &Calendar) -> Result<(), CheckFault>
     requires kept { IsCase case.now }
     requires fits { CalendarFits case.now calendar.now }
-    ensures { result ≡ answer (places_of 3 1 (by_line_and_day case.now (allowed_test case.now (amounts_of case.now calendar.now)))) }
+    ensures { result ≡ answer
+        (places_of 3 1 (by_line_and_day case.now
+        (allowed_test case.now (amounts_of case.now calendar.now)))) }
 {
     check_each(3, 1, calendar.amounts.len(), |place| {
         Some(is_allowed(case, calendar, place))
@@ -86,11 +91,12 @@ fn is_closed(case: &Case, calendar: &Calendar, l: usize) -> Option<bool>
     requires kept { IsCase case.now }
     requires fits { CalendarFits case.now calendar.now }
     requires line { l < line_count case.now }
-    ensures { result ≡ judged (full_test case.now calendar.now.den (amounts_of case.now calendar.now) l) }
+    ensures { result ≡ judged (full_test
+        case.now calendar.now.den (amounts_of case.now calendar.now) l) }
 {
     let line = case.line(l);
     let closed = line_closed(case, calendar, l)?;
-    let whole = product(i128::from(line.amount), calendar.den)?;
+    let whole = times(i128::from(line.amount), calendar.den)?;
     Some(closes(line.side, closed, whole))
 }
 
@@ -98,7 +104,9 @@ fn is_closed(case: &Case, calendar: &Calendar, l: usize) -> Option<bool>
 pub(crate) fn check_full(case: &Case, calendar: &Calendar) -> Result<(), CheckFault>
     requires kept { IsCase case.now }
     requires fits { CalendarFits case.now calendar.now }
-    ensures { result ≡ answer (places_of 4 1 (by_line case.now (full_test case.now calendar.now.den (amounts_of case.now calendar.now)))) }
+    ensures { result ≡ answer
+        (places_of 4 1 (by_line case.now (full_test
+        case.now calendar.now.den (amounts_of case.now calendar.now)))) }
 {
     check_each(4, 1, case.lines(), |l| is_closed(case, calendar, l))
 }
@@ -110,7 +118,8 @@ fn plus_line(case: &Case, calendar: &Calendar, i: usize, u: u8, sum: i128, l: us
     requires from { 1 ≤ u }
     requires to { u ≤ case.now.horizon }
     requires line { l < line_count case.now }
-    ensures { result ≡ summed sum [] (if instrument_of case.now l == i then amounts_of case.now calendar.now l u ∷ [] else []) }
+    ensures { result ≡ summed sum []
+        (if instrument_of case.now l == i then amounts_of case.now calendar.now l u ∷ [] else []) }
 {
     if case.line(l).instrument == i {
         plus(sum, amount(case, calendar, l, u))
@@ -125,7 +134,8 @@ fn day_closed(case: &Case, calendar: &Calendar, i: usize, u: u8) -> Option<i128>
     requires fits { CalendarFits case.now calendar.now }
     requires from { 1 ≤ u }
     requires to { u ≤ case.now.horizon }
-    ensures { result ≡ summed (pos 0) [] (day_closings case.now (amounts_of case.now calendar.now) i u) }
+    ensures { result ≡ summed (pos 0) []
+        (day_closings case.now (amounts_of case.now calendar.now) i u) }
 {
     add_each(
         0,
@@ -139,11 +149,13 @@ fn is_within_limit(case: &Case, calendar: &Calendar, place: usize) -> Option<boo
     requires kept { IsCase case.now }
     requires fits { CalendarFits case.now calendar.now }
     requires place { place < length case.now.instruments * case.now.horizon }
-    ensures { result ≡ judged (limit_test case.now calendar.now.den (amounts_of case.now calendar.now) (row_of case.now place) (day_of case.now place)) }
+    ensures { result ≡ judged (limit_test
+        case.now calendar.now.den (amounts_of case.now calendar.now)
+        (row_of case.now place) (day_of case.now place)) }
 {
     let (i, u) = closing_cell(case, case.instruments(), place);
     let closed = day_closed(case, calendar, i, u)?;
-    let most = product(i128::from(case.limit(i, u)), calendar.den)?;
+    let most = times(i128::from(case.limit(i, u)), calendar.den)?;
     Some(closed <= most)
 }
 
@@ -151,7 +163,9 @@ fn is_within_limit(case: &Case, calendar: &Calendar, place: usize) -> Option<boo
 pub(crate) fn check_limits(case: &Case, calendar: &Calendar) -> Result<(), CheckFault>
     requires kept { IsCase case.now }
     requires fits { CalendarFits case.now calendar.now }
-    ensures { result ≡ answer (places_of 5 1 (by_instrument_and_day case.now (limit_test case.now calendar.now.den (amounts_of case.now calendar.now)))) }
+    ensures { result ≡ answer
+        (places_of 5 1 (by_instrument_and_day case.now (limit_test
+        case.now calendar.now.den (amounts_of case.now calendar.now)))) }
 {
     let count = case.instruments() * usize::from(case.horizon());
     check_each(5, 1, count, |place| is_within_limit(case, calendar, place))
@@ -171,7 +185,9 @@ fn plus_member(
     requires from { 1 ≤ u }
     requires to { u ≤ case.now.horizon }
     requires member { m < length case.now.members }
-    ensures { result ≡ summed sum (pooled_numbers case.now (amounts_of case.now calendar.now) p u m) (pooled_step case.now (amounts_of case.now calendar.now) p u m) }
+    ensures { result ≡ summed sum
+        (pooled_numbers case.now (amounts_of case.now calendar.now) p u m)
+        (pooled_step case.now (amounts_of case.now calendar.now) p u m) }
 {
     let member = case.member(m);
     if member.pool != p {
@@ -187,7 +203,9 @@ fn pool_closed(case: &Case, calendar: &Calendar, p: usize, u: u8) -> Option<i128
     requires fits { CalendarFits case.now calendar.now }
     requires from { 1 ≤ u }
     requires to { u ≤ case.now.horizon }
-    ensures { result ≡ summed (pos 0) (pool_numbers case.now (amounts_of case.now calendar.now) p u) (pool_terms case.now (amounts_of case.now calendar.now) p u) }
+    ensures { result ≡ summed (pos 0)
+        (pool_numbers case.now (amounts_of case.now calendar.now) p u)
+        (pool_terms case.now (amounts_of case.now calendar.now) p u) }
 {
     add_each(
         0,
@@ -201,11 +219,13 @@ fn is_within_cap(case: &Case, calendar: &Calendar, place: usize) -> Option<bool>
     requires kept { IsCase case.now }
     requires fits { CalendarFits case.now calendar.now }
     requires place { place < length case.now.pools * case.now.horizon }
-    ensures { result ≡ judged (pool_test case.now calendar.now.den (amounts_of case.now calendar.now) (row_of case.now place) (day_of case.now place)) }
+    ensures { result ≡ judged (pool_test
+        case.now calendar.now.den (amounts_of case.now calendar.now)
+        (row_of case.now place) (day_of case.now place)) }
 {
     let (p, u) = closing_cell(case, case.pools(), place);
     let closed = pool_closed(case, calendar, p, u)?;
-    let most = product(i128::from(case.pool(p).cap), calendar.den)?;
+    let most = times(i128::from(case.pool(p).cap), calendar.den)?;
     Some(closed <= most)
 }
 
@@ -213,7 +233,9 @@ fn is_within_cap(case: &Case, calendar: &Calendar, place: usize) -> Option<bool>
 pub(crate) fn check_caps(case: &Case, calendar: &Calendar) -> Result<(), CheckFault>
     requires kept { IsCase case.now }
     requires fits { CalendarFits case.now calendar.now }
-    ensures { result ≡ answer (places_of 6 1 (by_pool_and_day case.now (pool_test case.now calendar.now.den (amounts_of case.now calendar.now)))) }
+    ensures { result ≡ answer
+        (places_of 6 1 (by_pool_and_day case.now (pool_test
+        case.now calendar.now.den (amounts_of case.now calendar.now)))) }
 {
     let count = case.pools() * usize::from(case.horizon());
     check_each(6, 1, count, |place| is_within_cap(case, calendar, place))

@@ -29,7 +29,8 @@ fn check_calendar(
     requires flows { flows.now ≡ case.now }
     requires fits { CalendarFits case.now calendar.now }
     requires loss { IsKept loss }
-    ensures { result ≡ answer (calendar_places case.now calendar.now.den (amounts_of case.now calendar.now) loss) }
+    ensures { result ≡ answer (calendar_places
+        case.now calendar.now.den (amounts_of case.now calendar.now) loss) }
 {
     check_signs(case, calendar)?;
     check_allowed(case, calendar)?;
@@ -44,7 +45,10 @@ fn check_weights(case: &Case, flows: &Flows, weights: &Weights, sum: i128) -> Re
     requires kept { IsCase case.now }
     requires flows { flows.now ≡ case.now }
     requires fits { WeightsFit case.now weights.now }
-    ensures { result ≡ answer (places_of 9 1 (weight_tests case.now weights.now) ++ places_of 10 1 (sum_test case.now weights.now sum ∷ []) ++ places_of 11 1 (by_line_and_day case.now (charge_test case.now weights.now))) }
+    ensures { result ≡ answer
+        (places_of 9 1 (weight_tests case.now weights.now)
+        ++ places_of 10 1 (sum_test case.now weights.now sum ∷ [])
+        ++ places_of 11 1 (by_line_and_day case.now (charge_test case.now weights.now))) }
 {
     check_weight_signs(case, weights)?;
     judge_place(10, 1, have_sum(case, weights, sum))?;

@@ -14,7 +14,6 @@ mod conditions;
 mod fault;
 mod places;
 mod ratios;
-mod sums;
 #[cfg(test)]
 mod tests;
 mod weights;

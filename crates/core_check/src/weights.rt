@@ -11,14 +11,16 @@ ghost use Rattle.core_check.specs.Steps.{judged};
 use crate::cells::number;
 use crate::fault::CheckFault;
 use crate::places::check_each;
-use crate::sums::{add_each, plus};
 use core_case::{Case, Side};
 use core_model::{Numbers, Weights};
+use core_wide::{add_each, plus};
 
 /// Whether each of some weights is at least 0, where the signs before are `before` in number.
 fn check_not_negative(before: u32, weights: &Numbers) -> Result<(), CheckFault>
     requires { 1 + before + length weights.now < 2 ^ 32 }
-    ensures { result ≡ answer (places_of 9 (1 + before) (map (λ p. plain (int_le (pos 0) (at weights.now p))) (below (length weights.now)))) }
+    ensures { result ≡ answer
+        (places_of 9 (1 + before)
+        (map (λ p. plain (int_le (pos 0) (at weights.now p))) (below (length weights.now)))) }
 {
     check_each(9, 1 + before, weights.len(), |place| {
         Some(number(weights, place) >= 0)

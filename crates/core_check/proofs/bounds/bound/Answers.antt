@@ -1,7 +1,7 @@
 use Rattle.std.proofs.Common.{rules, sym, ◌∙◌, ap, pos, FitsSigned}
 use mir.Syntax.{w128}
 use Rattle.std.proofs.lemmas.Int.{to_z-of_z}
-use Rattle.core_check.proofs.Adding.{sum_to}
+use Rattle.core_wide.proofs.Stepping.{sum_to}
 use Rattle.core_check.proofs.BoundTerms.{fixed_term, full_term, limit_term, cap_term, bound-fixed, bound-full, bound-limits, bound-whole}
 use Rattle.core_check.proofs.bounds.bound.Goals as goal
 

@@ -3,7 +3,7 @@ use mir.Syntax.{w128}
 use Rattle.std.proofs.lemmas.Int.{to_z-of_z}
 use Rattle.std.specs.Ordering.{int_eq}
 use Rattle.core_model.specs.Check.{bound_terms}
-use Rattle.core_check.proofs.Adding.{sum-kept}
+use Rattle.core_wide.proofs.Adding.{sum-kept}
 use Rattle.core_check.proofs.BoundTerms.{meets-leaves, meets-stays}
 use Rattle.core_check.proofs.bounds.meets.Goals as goal
 

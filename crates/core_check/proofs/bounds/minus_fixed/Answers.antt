@@ -5,7 +5,7 @@ use Rattle.std.proofs.Math.IntN.{zero-*ℤ}
 use Rattle.core_sums.specs.Places.{at}
 use Rattle.core_model.specs.Closing.{fixed}
 use Rattle.core_check.specs.Cells.{house_day_of}
-use Rattle.core_check.specs.Steps.{with_product}
+use Rattle.core_wide.specs.Steps.{with_product}
 use Rattle.core_check.proofs.bounds.minus_fixed.Goals as goal
 
 pub returns-then-weight-eq0 : goal.returns-then-weight-eq0

@@ -3,9 +3,10 @@ use mir.Syntax.{w128}
 use Rattle.std.proofs.lemmas.Int.{to_z-of_z}
 use Rattle.core_model.specs.Closing.{fixed}
 use Rattle.core_model.specs.Bounds.{amounts_of}
-use Rattle.core_check.specs.Steps.{with_product, cash_step}
-use Rattle.core_check.proofs.Adding.{sum_to}
-use Rattle.core_check.proofs.Keeping.{kept-fits}
+use Rattle.core_wide.specs.Steps.{with_product}
+use Rattle.core_check.specs.Steps.{cash_step}
+use Rattle.core_wide.proofs.Stepping.{sum_to}
+use Rattle.core_sums.proofs.Kept.{kept-fits}
 use Rattle.core_check.proofs.CashTerms.{cash-on, cash-ends}
 use Rattle.core_check.proofs.cash.cash.Goals as goal
 

@@ -5,8 +5,8 @@ use Rattle.core_sums.specs.Sums.{total}
 use Rattle.core_model.specs.Bounds.{amounts_of}
 use Rattle.core_model.specs.Check.{cash_terms}
 use Rattle.core_check.specs.Cells.{scenario_of, house_day_of}
-use Rattle.core_check.proofs.Keeping.{opposite-fits}
-use Rattle.core_check.proofs.Adding.{sum-total}
+use Rattle.core_sums.proofs.Kept.{opposite-fits}
+use Rattle.core_wide.proofs.Adding.{sum-total}
 use Rattle.core_check.proofs.Judging.{sum-stays, sum-leaves}
 use Rattle.core_check.proofs.CashTerms.{loss-most, cash-at}
 use Rattle.core_check.proofs.cash.is_covered.Goals as goal

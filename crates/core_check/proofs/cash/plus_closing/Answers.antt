@@ -4,9 +4,10 @@ use Rattle.std.proofs.lemmas.Int.{to_z-of_z}
 use Rattle.core_case.specs.View.{is_allowed}
 use Rattle.core_model.specs.Bounds.{amounts_of, unit}
 use Rattle.core_check.specs.Cells.{row_of, day_of}
-use Rattle.core_check.specs.Steps.{summed, with_product, cash_step}
+use Rattle.core_wide.specs.Steps.{summed, with_product}
+use Rattle.core_check.specs.Steps.{cash_step}
 use Rattle.core_check.proofs.Tables.{amount-at}
-use Rattle.core_check.proofs.Adding.{nothing-added}
+use Rattle.core_wide.proofs.Adding.{nothing-added}
 use Rattle.core_check.proofs.CashTerms.{cash_step-zero, cash_step-barred, cash_step-paid}
 use Rattle.core_check.proofs.cash.plus_closing.Goals as goal
 

@@ -6,7 +6,7 @@ use Rattle.core_model.specs.Bounds.{amounts_of}
 use Rattle.core_model.specs.Check.{places_of, plain, allowed_test}
 use Rattle.core_check.specs.Answers.{answer}
 use Rattle.core_check.specs.Cells.{row_of, day_of}
-use Rattle.core_check.proofs.Lists.{map-cong}
+use Rattle.core_sums.proofs.Joined.{map-cong}
 use Rattle.core_check.proofs.Judging.{plain-judged}
 use Rattle.core_check.proofs.Tables.{amount-at, lines-by_place, amounts-few}
 use Rattle.core_check.proofs.closings.check_allowed.Goals as goal

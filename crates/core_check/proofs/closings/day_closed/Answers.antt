@@ -3,8 +3,8 @@ use Rattle.core_sums.specs.Places.{each, below}
 use Rattle.core_case.specs.View.{instrument_of}
 use Rattle.core_model.specs.Closing.{line_count}
 use Rattle.core_model.specs.Bounds.{amounts_of}
-use Rattle.core_check.specs.Steps.{summed}
-use Rattle.core_check.proofs.Lists.{each-empty, map-filter}
+use Rattle.core_wide.specs.Steps.{summed}
+use Rattle.core_sums.proofs.Joined.{each-empty, map-filter}
 use Rattle.core_check.proofs.closings.day_closed.Goals as goal
 
 pub returns : goal.returns

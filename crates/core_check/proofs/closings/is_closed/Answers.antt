@@ -4,7 +4,7 @@ use Rattle.std.proofs.lemmas.Int.{to_z-of_z}
 use Rattle.core_case.specs.View.{line}
 use Rattle.core_model.specs.Bounds.{amounts_of}
 use Rattle.core_model.specs.Check.{closes_line, closings}
-use Rattle.core_check.specs.Steps.{Leaves, Stays}
+use Rattle.core_wide.specs.Steps.{Leaves, Stays}
 use Rattle.core_check.proofs.Judging.{both-stay, first-leaves, second-leaves}
 use Rattle.core_check.proofs.closings.is_closed.Goals as goal
 

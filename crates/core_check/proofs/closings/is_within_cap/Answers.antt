@@ -5,7 +5,8 @@ use Rattle.core_case.specs.View.{pool}
 use Rattle.core_model.specs.Bounds.{amounts_of}
 use Rattle.core_model.specs.Check.{pool_terms, pool_test}
 use Rattle.core_check.specs.Cells.{row_of}
-use Rattle.core_check.specs.Steps.{Leaves, Stays, judged, pool_numbers}
+use Rattle.core_wide.specs.Steps.{Leaves, Stays}
+use Rattle.core_check.specs.Steps.{judged, pool_numbers}
 use Rattle.core_check.proofs.Judging.{both-stay, first-leaves, second-leaves}
 use Rattle.core_check.proofs.closings.is_within_cap.Goals as goal
 

@@ -5,7 +5,8 @@ use Rattle.core_case.specs.View.{limit}
 use Rattle.core_model.specs.Bounds.{amounts_of}
 use Rattle.core_model.specs.Check.{day_closings, limit_test}
 use Rattle.core_check.specs.Cells.{row_of}
-use Rattle.core_check.specs.Steps.{Leaves, Stays, judged}
+use Rattle.core_wide.specs.Steps.{Leaves, Stays}
+use Rattle.core_check.specs.Steps.{judged}
 use Rattle.core_check.proofs.Judging.{both-stay, first-leaves, second-leaves}
 use Rattle.core_check.proofs.closings.is_within_limit.Goals as goal
 

@@ -1,8 +1,8 @@
 use Rattle.std.proofs.Common.{◌≡◌, rules, ◌∙◌, ap, ℕ, ◌+◌, pos, [], ◌∷◌}
 use Rattle.core_sums.specs.Places.{each, below}
 use Rattle.core_model.specs.Bounds.{amounts_of}
-use Rattle.core_check.specs.Steps.{summed}
-use Rattle.core_check.proofs.Lists.{each-empty, days-each}
+use Rattle.core_wide.specs.Steps.{summed}
+use Rattle.core_sums.proofs.Joined.{each-empty, days-each}
 use Rattle.core_check.proofs.closings.line_closed.Goals as goal
 
 pub returns : goal.returns

@@ -5,7 +5,7 @@ use Rattle.std.proofs.lemmas.Bool.{eq-eqb, ne_eqb}
 use Rattle.core_case.specs.View.{member}
 use Rattle.core_model.specs.Bounds.{amounts_of}
 use Rattle.core_model.specs.Check.{day_closings}
-use Rattle.core_check.specs.Steps.{summed, with_product}
+use Rattle.core_wide.specs.Steps.{summed, with_product}
 use Rattle.core_check.proofs.Pooling.{other-pool, pool-leaves, pool-stays}
 use Rattle.core_check.proofs.closings.plus_member.Goals as goal
 

@@ -5,8 +5,9 @@ use Rattle.core_sums.specs.Widths.{any_leaves}
 use Rattle.core_case.specs.View.{member}
 use Rattle.core_model.specs.Bounds.{amounts_of}
 use Rattle.core_model.specs.Check.{day_closings, weighted_closing, members_of_pool}
-use Rattle.core_check.specs.Steps.{summed, pooled_step, pooled_numbers, pool_numbers}
-use Rattle.core_check.proofs.Lists.{each-filter, map-filter}
+use Rattle.core_wide.specs.Steps.{summed}
+use Rattle.core_check.specs.Steps.{pooled_step, pooled_numbers, pool_numbers}
+use Rattle.core_sums.proofs.Joined.{each-filter, map-filter}
 use Rattle.core_check.proofs.Judging.{summed-same, each-reordered}
 use Rattle.core_check.proofs.closings.pool_closed.Goals as goal
 

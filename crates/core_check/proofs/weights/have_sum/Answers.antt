@@ -5,8 +5,8 @@ use Rattle.core_sums.specs.Sums.{total}
 use Rattle.core_sums.specs.Places.{at}
 use Rattle.core_model.specs.Fits.{IsKept}
 use Rattle.core_model.specs.Check.{scenario_terms}
-use Rattle.core_check.proofs.Keeping.{at-kept}
-use Rattle.core_check.proofs.Adding.{sum-total}
+use Rattle.core_sums.proofs.Kept.{at-kept}
+use Rattle.core_wide.proofs.Adding.{sum-total}
 use Rattle.core_check.proofs.Judging.{sum-stays, sum-leaves}
 use Rattle.core_check.proofs.WeightSigns.{scenario_term, scenarios-summed}
 use Rattle.core_check.proofs.weights.have_sum.Goals as goal
