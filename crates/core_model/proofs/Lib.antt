@@ -1,3 +1,4 @@
 pub mod FewLines
 pub mod WorkedCases
+pub mod Sizes
 mod Rows

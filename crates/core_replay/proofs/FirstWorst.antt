@@ -1,12 +1,13 @@
 -- The first worst loss, day by day and scenario by scenario.
-use Rattle.std.proofs.Common.{◌≡◌, refl, sym, ◌∙◌, ap, subst, ℕ, ◌+◌, ◌-◌, ◌<◌, ◌≤◌, ◌⊎◌, inl, inr, arith, ℤ, neg_ℤ, ◌≤ℤ◌, ◌<ℤ◌, int_lt, Bool, true, false, ◌||◌, unsigned_abs, List, [], ◌∷◌, ◌++◌, length, if◌then◌else◌}
+use Rattle.std.proofs.Common.{◌≡◌, refl, sym, ◌∙◌, ap, subst, ℕ, ◌+◌, ◌-◌, ◌<◌, ◌≤◌, ◌⊎◌, inl, inr, arith, ℤ, neg_ℤ, ◌≤ℤ◌, ◌<ℤ◌, int_lt, Bool, true, false, List, [], ◌∷◌, ◌++◌, length, if◌then◌else◌}
 use Rattle.std.proofs.lemmas.Int.{ints}
-use Rattle.std.proofs.lemmas.Bool.{cases_lt, ltb-false}
+use Rattle.std.proofs.lemmas.Bool.{cases_lt, or_parts}
 use Rattle.std.proofs.lemmas.List.Folds.{list_any-append}
 use Rattle.core_sums.specs.Sums.{greatest_to}
 use Rattle.core_sums.specs.Places.{at}
 use Rattle.core_sums.specs.Widths.{most, leaves, any_leaves}
 use Rattle.core_sums.proofs.SumLaws.{greatest_to-bounds, greatest_to-le}
+use Rattle.core_sums.proofs.Kept.{stays-kept}
 use Rattle.core_case.specs.View.{CaseView, cash}
 use Rattle.std.specs.Prelude.{◌*ℤ◌}
 use Rattle.core_model.specs.Closing.{Amounts, cash_of, loss_of, worst_loss}
@@ -19,30 +20,19 @@ use Rattle.core_replay.specs.declared.losses.WorstLoss.{WorstLoss}
 use Rattle.core_replay.specs.declared.fault.ReplayFault.{ReplayFault}
 use Rattle.core_replay.specs.declared.fault.ReplayFault.TheVariants.{TooWide, NoMemory}
 
--- of numbers that stay each part stays
-or-right-none : (a b : Bool) → (a || b) ≡ false → b ≡ false
-or-right-none true b e = cc
-or-right-none false b e = e
-
-or-left-none : (a b : Bool) → (a || b) ≡ false → a ≡ false
-or-left-none true b e = e
-or-left-none false b e = refl
-
+-- of numbers that stay those of the second part stay
 right-none : (xs ys : List ℤ) → any_leaves (xs ++ ys) ≡ false → any_leaves ys ≡ false
-right-none xs ys e = or-right-none (any_leaves xs) (any_leaves ys) (sym (list_any-append (leaves most) xs ys) ∙ e)
+right-none xs ys e = (or_parts (any_leaves xs) (any_leaves ys) (sym (list_any-append (leaves most) xs ys) ∙ e)).1
 
 -- a total that stays is kept
-stays-kept : (z : ℤ) → leaves most z ≡ false → IsKept z
-stays-kept z e = ltb-false most (unsigned_abs z) e
-
 pub cash-kept : (c : CaseView) (d : ℤ) (a : Amounts) (k t : ℕ) → day_leaves c d a k t ≡ false → IsKept (cash_of c d a k t)
 cash-kept c d a k t e =
     let last = cash_of c d a k t in
     let ending = paid_numbers c d a k t ++ (last ∷ []) in
     let later = right-none (opening_numbers c d t) _ e in
-    let after_cash : any_leaves (lines_numbers c d a k t ++ ending) ≡ false = or-right-none (leaves most (d *ℤ cash c t)) (any_leaves (lines_numbers c d a k t ++ ending)) later in
+    let after_cash : any_leaves (lines_numbers c d a k t ++ ending) ≡ false = (or_parts (leaves most (d *ℤ cash c t)) (any_leaves (lines_numbers c d a k t ++ ending)) later).1 in
     let one : any_leaves (last ∷ []) ≡ false = right-none (paid_numbers c d a k t) (last ∷ []) (right-none (lines_numbers c d a k t) ending after_cash) in
-    stays-kept last (or-left-none (leaves most last) false one)
+    stays-kept last (or_parts (leaves most last) false one).0
 
 pub total-kept : (c : CaseView) (d : ℤ) (a : Amounts) (k : ℕ) (ledger : Ledger) → IsLedger c d a k ledger → (t : ℕ) → t ≤ c.last → IsKept (at ledger.total t)
 total-kept c d a k ledger is t within = subst IsKept (sym (is.total.each t within)) (cash-kept c d a k t (is.stays t within))

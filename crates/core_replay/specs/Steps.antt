@@ -1,5 +1,5 @@
 -- Where a replay stands between its steps.
-use Rattle.std.specs.Prelude.{◌≡◌, ℕ, suc, ◌<◌, ◌≤◌, ℤ, pos, ◌-ℤ◌, ◌*ℤ◌, true, false, nat_le, List, [], ◌∷◌, ◌++◌, length, get_or, if◌then◌else◌, Option, Some, None, slice_set}
+use Rattle.std.specs.Prelude.{◌≡◌, ℕ, suc, ◌<◌, ◌≤◌, ℤ, pos, ◌-ℤ◌, ◌*ℤ◌, nat_le, List, [], ◌∷◌, ◌++◌, length, get_or, if◌then◌else◌, Option, Some, None, slice_set}
 use Rattle.core_sums.specs.Places.{row_at}
 use Rattle.core_case.specs.View.{CaseView, instrument, instrument_of, cash, day_before, price}
 use Rattle.core_case.specs.declared.parts.Kind.{Kind}

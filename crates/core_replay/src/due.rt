@@ -35,7 +35,8 @@ impl DueFlows {
     /// Puts a flow behind those of its pay day.
     fn put(&mut self, day: u8, flow: i128) -> Result<(), AllocError>
         requires { day < length self.old }
-        ensures { IfOk result (λ _. self.new ≡ slice_set self.old day (row_at self.old day ++ (flow ∷ []))) }
+        ensures { IfOk result
+            (λ _. self.new ≡ slice_set self.old day (row_at self.old day ++ (flow ∷ []))) }
     {
         self.by_day[day as usize].push(flow)?;
         Ok(())

@@ -40,7 +40,9 @@ struct Run {
 
 /// A ledger of noughts.
 fn empty_ledger(alloc: Global, den: i128, days: usize) -> Result<Ledger, AllocError>
-    ensures { IfOk result (λ ledger. (ledger.den ≡ den) × (ledger.paid ≡ replicate days (pos 0)) × (ledger.total ≡ replicate days (pos 0))) }
+    ensures { IfOk result
+        (λ ledger. (ledger.den ≡ den) × (ledger.paid ≡ replicate days (pos 0))
+        × (ledger.total ≡ replicate days (pos 0))) }
 {
     let paid = Numbers::zeros(alloc, days)?;
     let total = Numbers::zeros(alloc, days)?;
@@ -59,12 +61,17 @@ fn day_sums(
     requires kept { IsCase case.now }
     requires fits { CalendarFits case.now calendar.now }
     requires day { t ≤ case.now.last }
-    requires due { due.now ≡ flows_until case.now calendar.now.den (amounts_of case.now calendar.now) scenario t t }
-    requires before { before ≡ sum_below t (paid_on case.now calendar.now.den (amounts_of case.now calendar.now) scenario) }
-    ensures { let numbers = sum_numbers case.now calendar.now.den (amounts_of case.now calendar.now) scenario t in
+    requires due { due.now ≡ flows_until
+        case.now calendar.now.den (amounts_of case.now calendar.now) scenario t t }
+    requires before { before ≡ sum_below t (paid_on
+        case.now calendar.now.den (amounts_of case.now calendar.now) scenario) }
+    ensures { let numbers = sum_numbers
+        case.now calendar.now.den (amounts_of case.now calendar.now) scenario t in
         MatchOption result (any_leaves numbers ≡ true)
-        (λ sums. (sums.0 ≡ paid_on case.now calendar.now.den (amounts_of case.now calendar.now) scenario t)
-        × (sums.1 ≡ cash_of case.now calendar.now.den (amounts_of case.now calendar.now) scenario t)
+        (λ sums. (sums.0 ≡ paid_on
+        case.now calendar.now.den (amounts_of case.now calendar.now) scenario t)
+        × (sums.1 ≡ cash_of
+        case.now calendar.now.den (amounts_of case.now calendar.now) scenario t)
         × (any_leaves numbers ≡ false)) }
 {
     let cash = times(calendar.den, i128::from(case.cash(t)))?;
@@ -83,9 +90,12 @@ impl Run {
     ) -> Result<Run, ReplayFault>
         requires kept { IsCase case.now }
         requires fits { CalendarFits case.now calendar.now }
-        ensures started { IfOk result (IsRun case.now calendar.now.den (amounts_of case.now calendar.now) scenario 0) }
-        ensures stays { IfOk result (λ _. any_leaves (opening_numbers case.now calendar.now.den 0) ≡ false) }
-        ensures stops { IfErr result (StopsOn scenario 0 (opening_numbers case.now calendar.now.den 0)) }
+        ensures started { IfOk result (IsRun
+            case.now calendar.now.den (amounts_of case.now calendar.now) scenario 0) }
+        ensures stays { IfOk result
+            (λ _. any_leaves (opening_numbers case.now calendar.now.den 0) ≡ false) }
+        ensures stops { IfErr result
+            (StopsOn scenario 0 (opening_numbers case.now calendar.now.den 0)) }
     {
         let lines = open_lines(alloc, case, calendar, scenario)?;
         let days = usize::from(case.last()) + 1;
@@ -111,10 +121,16 @@ impl Run {
         requires fits { CalendarFits case.now calendar.now }
         requires scenario { scenario < length case.now.scenarios }
         requires day { t ≤ case.now.last }
-        requires before { IsRun case.now calendar.now.den (amounts_of case.now calendar.now) scenario t self.old }
-        ensures after { IfOk result (λ _. IsRun case.now calendar.now.den (amounts_of case.now calendar.now) scenario (suc t) self.new) }
-        ensures stays { IfOk result (λ _. any_leaves (later_numbers case.now calendar.now.den (amounts_of case.now calendar.now) scenario t) ≡ false) }
-        ensures stops { IfErr result (StopsOn scenario t (later_numbers case.now calendar.now.den (amounts_of case.now calendar.now) scenario t)) }
+        requires before { IsRun
+            case.now calendar.now.den (amounts_of case.now calendar.now) scenario t self.old }
+        ensures after { IfOk result (λ _. IsRun case.now calendar.now.den
+            (amounts_of case.now calendar.now) scenario (suc t) self.new) }
+        ensures stays { IfOk result
+            (λ _. any_leaves (later_numbers
+            case.now calendar.now.den (amounts_of case.now calendar.now) scenario t) ≡ false) }
+        ensures stops { IfErr result
+            (StopsOn scenario t (later_numbers
+            case.now calendar.now.den (amounts_of case.now calendar.now) scenario t)) }
     {
         day_lines(case, calendar, scenario, t, &mut self.lines, &mut self.due)?;
         let due = self.due.on(t);
@@ -147,8 +163,10 @@ pub fn replay(
     requires fits { CalendarFits case.now calendar.now }
     requires den { pos 1 ≤ℤ calendar.now.den }
     requires scenario { scenario < length case.now.scenarios }
-    ensures replayed { IfOk result (IsLedger case.now calendar.now.den (amounts_of case.now calendar.now) scenario) }
-    ensures stops { IfErr result (StopsReplay case.now calendar.now.den (amounts_of case.now calendar.now) scenario) }
+    ensures replayed { IfOk result (IsLedger
+        case.now calendar.now.den (amounts_of case.now calendar.now) scenario) }
+    ensures stops { IfErr result (StopsReplay
+        case.now calendar.now.den (amounts_of case.now calendar.now) scenario) }
 {
     let last = case.last();
     let mut run = Run::start(alloc, case, calendar, scenario)?;

@@ -60,7 +60,9 @@ fn price_change(case: &Case, scenario: usize, l: usize, t: u8, marked_on: u8) ->
     requires line { l < line_count case.now }
     requires day { t ≤ case.now.last }
     requires marked { marked_on ≡ day_before case.now (instrument_of case.now l) t }
-    ensures { result ≡ price case.now scenario (instrument_of case.now l) t -ℤ price case.now scenario (instrument_of case.now l) (day_before case.now (instrument_of case.now l) t) }
+    ensures { let i = instrument_of case.now l in
+        result ≡ price case.now scenario i t
+        -ℤ price case.now scenario i (day_before case.now i t) }
 {
     let i = case.line(l).instrument;
     case.price(scenario, i, t) - case.price(scenario, i, marked_on)
@@ -88,7 +90,8 @@ fn base_of(case: &Case, calendar: &Calendar, l: usize, t: u8, standing: Standing
     requires fits { CalendarFits case.now calendar.now }
     requires line { l < line_count case.now }
     requires day { 1 ≤ t }
-    requires standing { IsStanding case.now calendar.now.den (amounts_of case.now calendar.now) l t standing }
+    requires standing { IsStanding
+        case.now calendar.now.den (amounts_of case.now calendar.now) l t standing }
     ensures { result ≡ base_of case.now calendar.now.den (amounts_of case.now calendar.now) l t }
 {
     match case.instrument(case.line(l).instrument).kind {
@@ -113,8 +116,10 @@ fn flow(
     requires line { l < line_count case.now }
     requires from { 1 ≤ t }
     requires to { t ≤ case.now.last }
-    requires standing { IsStanding case.now calendar.now.den (amounts_of case.now calendar.now) l t standing }
-    ensures { let z = flow case.now calendar.now.den (amounts_of case.now calendar.now) scenario l t in
+    requires standing { IsStanding
+        case.now calendar.now.den (amounts_of case.now calendar.now) l t standing }
+    ensures { let z = flow
+        case.now calendar.now.den (amounts_of case.now calendar.now) scenario l t in
         MatchOption result (Leaves z) (λ flow. (flow ≡ z) × Stays z) }
 {
     if case.is_open(case.line(l).instrument, t) {
@@ -132,10 +137,14 @@ fn open_after(case: &Case, calendar: &Calendar, l: usize, t: u8, standing: Stand
     requires line { l < line_count case.now }
     requires from { 1 ≤ t }
     requires to { t ≤ case.now.last }
-    requires standing { IsStanding case.now calendar.now.den (amounts_of case.now calendar.now) l t standing }
-    ensures { let numbers = closing_numbers case.now calendar.now.den (amounts_of case.now calendar.now) t l in
+    requires standing { IsStanding
+        case.now calendar.now.den (amounts_of case.now calendar.now) l t standing }
+    ensures { let numbers = closing_numbers
+        case.now calendar.now.den (amounts_of case.now calendar.now) t l in
         MatchOption result (any_leaves numbers ≡ true)
-        (λ rest. (rest ≡ still_open case.now calendar.now.den (amounts_of case.now calendar.now) l (suc t)) × (any_leaves numbers ≡ false)) }
+        (λ rest. (rest ≡ still_open
+        case.now calendar.now.den (amounts_of case.now calendar.now) l (suc t))
+        × (any_leaves numbers ≡ false)) }
 {
     if t <= case.horizon() {
         minus(standing.still_open, closed(case, calendar, l, t))
@@ -184,10 +193,13 @@ fn line_day(
     requires line { l < line_count case.now }
     requires from { 1 ≤ t }
     requires to { t ≤ case.now.last }
-    requires standing { IsStanding case.now calendar.now.den (amounts_of case.now calendar.now) l t standing }
-    ensures { let numbers = line_numbers case.now calendar.now.den (amounts_of case.now calendar.now) scenario t l in
+    requires standing { IsStanding
+        case.now calendar.now.den (amounts_of case.now calendar.now) l t standing }
+    ensures { let numbers = line_numbers
+        case.now calendar.now.den (amounts_of case.now calendar.now) scenario t l in
         MatchOption result (any_leaves numbers ≡ true)
-        (λ day. (day.0 ≡ flow case.now calendar.now.den (amounts_of case.now calendar.now) scenario l t)
+        (λ day. (day.0 ≡ flow
+        case.now calendar.now.den (amounts_of case.now calendar.now) scenario l t)
         × IsStanding case.now calendar.now.den (amounts_of case.now calendar.now) l (suc t) day.1
         × (any_leaves numbers ≡ false)) }
 {
@@ -212,9 +224,12 @@ pub(crate) fn open_lines(
 ) -> Result<Vec<Standing>, ReplayFault>
     requires kept { IsCase case.now }
     requires fits { CalendarFits case.now calendar.now }
-    ensures opened { IfOk result (λ lines. AreStanding case.now calendar.now.den (amounts_of case.now calendar.now) 0 0 lines.items) }
-    ensures stays { IfOk result (λ _. any_leaves (opening_numbers case.now calendar.now.den 0) ≡ false) }
-    ensures stops { IfErr result (StopsOn scenario 0 (opening_numbers case.now calendar.now.den 0)) }
+    ensures opened { IfOk result (λ lines. AreStanding
+        case.now calendar.now.den (amounts_of case.now calendar.now) 0 0 lines.items) }
+    ensures stays { IfOk result
+        (λ _. any_leaves (opening_numbers case.now calendar.now.den 0) ≡ false) }
+    ensures stops { IfErr result
+        (StopsOn scenario 0 (opening_numbers case.now calendar.now.den 0)) }
 {
     let mut lines = Vec::with_capacity(alloc, case.lines())?;
     for l in 0..case.lines() {
@@ -256,12 +271,20 @@ fn replay_lines(
     requires scenario { scenario < length case.now.scenarios }
     requires from { 1 ≤ t }
     requires to { t ≤ case.now.last }
-    requires standing { AreStanding case.now calendar.now.den (amounts_of case.now calendar.now) t 0 lines.old.items }
-    requires due { AreDue case.now calendar.now.den (amounts_of case.now calendar.now) scenario (t - 1) 0 due.old }
-    ensures standing { IfOk result (λ _. AreStanding case.now calendar.now.den (amounts_of case.now calendar.now) (suc t) 0 lines.new.items) }
-    ensures due { IfOk result (λ _. AreDue case.now calendar.now.den (amounts_of case.now calendar.now) scenario t 0 due.new) }
-    ensures stays { IfOk result (λ _. any_leaves (lines_numbers case.now calendar.now.den (amounts_of case.now calendar.now) scenario t) ≡ false) }
-    ensures stops { IfErr result (StopsOn scenario t (lines_numbers case.now calendar.now.den (amounts_of case.now calendar.now) scenario t)) }
+    requires standing { AreStanding
+        case.now calendar.now.den (amounts_of case.now calendar.now) t 0 lines.old.items }
+    requires due { AreDue
+        case.now calendar.now.den (amounts_of case.now calendar.now) scenario (t - 1) 0 due.old }
+    ensures standing { IfOk result (λ _. AreStanding
+        case.now calendar.now.den (amounts_of case.now calendar.now) (suc t) 0 lines.new.items) }
+    ensures due { IfOk result (λ _. AreDue
+        case.now calendar.now.den (amounts_of case.now calendar.now) scenario t 0 due.new) }
+    ensures stays { IfOk result
+        (λ _. any_leaves (lines_numbers
+        case.now calendar.now.den (amounts_of case.now calendar.now) scenario t) ≡ false) }
+    ensures stops { IfErr result
+        (StopsOn scenario t (lines_numbers
+        case.now calendar.now.den (amounts_of case.now calendar.now) scenario t)) }
 {
     for l in 0..lines.len() {
         let Some((flow, next)) = line_day(case, calendar, scenario, l, t, lines[l]) else {
@@ -286,12 +309,20 @@ pub(crate) fn day_lines(
     requires fits { CalendarFits case.now calendar.now }
     requires scenario { scenario < length case.now.scenarios }
     requires day { t ≤ case.now.last }
-    requires standing { AreStanding case.now calendar.now.den (amounts_of case.now calendar.now) t 0 lines.old.items }
-    requires due { AreDue case.now calendar.now.den (amounts_of case.now calendar.now) scenario (t - 1) 0 due.old }
-    ensures standing { IfOk result (λ _. AreStanding case.now calendar.now.den (amounts_of case.now calendar.now) (suc t) 0 lines.new.items) }
-    ensures due { IfOk result (λ _. AreDue case.now calendar.now.den (amounts_of case.now calendar.now) scenario t 0 due.new) }
-    ensures stays { IfOk result (λ _. any_leaves (lines_numbers case.now calendar.now.den (amounts_of case.now calendar.now) scenario t) ≡ false) }
-    ensures stops { IfErr result (StopsOn scenario t (lines_numbers case.now calendar.now.den (amounts_of case.now calendar.now) scenario t)) }
+    requires standing { AreStanding
+        case.now calendar.now.den (amounts_of case.now calendar.now) t 0 lines.old.items }
+    requires due { AreDue
+        case.now calendar.now.den (amounts_of case.now calendar.now) scenario (t - 1) 0 due.old }
+    ensures standing { IfOk result (λ _. AreStanding
+        case.now calendar.now.den (amounts_of case.now calendar.now) (suc t) 0 lines.new.items) }
+    ensures due { IfOk result (λ _. AreDue
+        case.now calendar.now.den (amounts_of case.now calendar.now) scenario t 0 due.new) }
+    ensures stays { IfOk result
+        (λ _. any_leaves (lines_numbers
+        case.now calendar.now.den (amounts_of case.now calendar.now) scenario t) ≡ false) }
+    ensures stops { IfErr result
+        (StopsOn scenario t (lines_numbers
+        case.now calendar.now.den (amounts_of case.now calendar.now) scenario t)) }
 {
     if t == 0 {
         Ok(())

@@ -68,8 +68,10 @@ fn worst_day(ledger: &Ledger, scenario: usize, last: u8) -> WorstLoss
 pub fn worst(alloc: Global, case: &Case, calendar: &Calendar) -> Result<WorstLoss, ReplayFault>
     requires fits { CalendarFits case.now calendar.now }
     requires den { pos 1 ≤ℤ calendar.now.den }
-    ensures worst { IfOk result (IsWorstLoss case.now calendar.now.den (amounts_of case.now calendar.now)) }
-    ensures stops { IfErr result (StopsWorst case.now calendar.now.den (amounts_of case.now calendar.now)) }
+    ensures worst { IfOk result (IsWorstLoss
+        case.now calendar.now.den (amounts_of case.now calendar.now)) }
+    ensures stops { IfErr result (StopsWorst
+        case.now calendar.now.den (amounts_of case.now calendar.now)) }
 {
     let last = case.last();
     let first = replay(alloc, case, calendar, 0)?;

@@ -1,6 +1,6 @@
 use Rattle.std.proofs.Common.{◌≡◌, arith, ap}
 use Rattle.core_case.specs.View.{instrument_of}
-use Rattle.core_replay.proofs.Sizes.{line-kept}
+use Rattle.core_model.proofs.Sizes.{line-kept}
 use Rattle.core_replay.proofs.lines.base_of.Goals as goal
 
 pub instrument-requires : goal.instrument-requires
