@@ -1,0 +1,6 @@
+use Rattle.std.specs.Int.{w64}
+use Rattle.std.proofs.lemmas.Nat.Bits.{bit_at-trailing_zeros}
+use Rattle.exact_frac.proofs.divisors.odd_part.Goals as goal
+
+pub returns-clause-odd : goal.returns-clause-odd
+returns-clause-odd c = (bit_at-trailing_zeros w64 c.args.n c.requires c.ranges.n.fits).1
