@@ -1,5 +1,5 @@
 -- Greatest common divisors by halvings and differences.
-use Rattle.std.proofs.Common.{◌≡◌, ℕ, zero, suc, ◌+◌, ◌-◌, ◌*◌, ◌/◌, ◌%◌, ◌^◌, ◌<◌, ◌≤◌, ◌⊎◌, inl, inr, min, ap, ap₂, sym, ◌∙◌, refl, pow-add, arith}
+use Rattle.std.proofs.Common.{◌≡◌, ℕ, zero, suc, ◌+◌, ◌-◌, ◌*◌, ◌/◌, ◌%◌, ◌^◌, ◌<◌, ◌≤◌, ◌⊎◌, inl, inr, min, ap, ap₂, sym, ◌∙◌, pow-add, arith}
 use Rattle.std.specs.Int.{trailing_zeros, bit_at, w64}
 use Rattle.std.proofs.Math.Nat.{dvd_antisymm, mul-dvd-mul_right, pow-suc}
 use Rattle.std.proofs.lemmas.Bool.{cases_lt}

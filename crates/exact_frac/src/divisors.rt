@@ -10,7 +10,10 @@ pub fn gcd(a: u128, b: u128) -> u128
     ensures value { result ≡ gcd_of a b }
     ensures positive { 0 < b → 0 < result }
 {
-    if b == 1 || a == b {
+    if a == 1 || b == 1 {
+        return 1;
+    }
+    if a == b {
         return b;
     }
     let mut x = a;

@@ -1,4 +1,4 @@
-use Rattle.std.proofs.Common.{◌≡◌, ◌*◌, ◌%◌, ◌^◌, ◌<◌, ◌≤◌, ℕ, ap, sym, ◌∙◌, arith}
+use Rattle.std.proofs.Common.{◌≡◌, ◌*◌, ◌^◌, ◌<◌, ◌≤◌, ℕ, ap, sym, ◌∙◌, arith}
 use Rattle.std.specs.Int.{w64, trailing_zeros}
 use Rattle.std.proofs.Math.Nat.{le_of_dvd}
 use Rattle.fractions.specs.Gcd.{gcd}
