@@ -1,5 +1,6 @@
 -- Digits, read one after another.
-use Rattle.std.proofs.Common.{◌≡◌, ◌≤◌, ◌+◌, ◌-◌, ◌*◌, ℕ, List, [], ◌∷◌, arith, refl, Option, Some, None, true, false, fold, if◌then◌else◌}
+use Rattle.std.proofs.Common.{◌≡◌, ◌≤◌, ◌<◌, ◌+◌, ◌-◌, ◌*◌, ◌^◌, ℕ, List, [], ◌∷◌, arith, refl, Option, Some, None, true, false, fold, if◌then◌else◌}
+use Rattle.std.proofs.Math.Nat.{pow-le-pow_right}
 use Rattle.std.specs.List.{list_all}
 use Rattle.std.proofs.lemmas.Grind.{common_steps}
 use Rattle.core_rows.specs.Fields.{is_digit, at_most}
@@ -24,3 +25,14 @@ none_at greatest value b bs none =
       | true ↦ above greatest (value * 10 + (b - 48)) (fold (λ n b. n * 10 + (b - 48)) (value * 10 + (b - 48)) bs) none (grows (value * 10 + (b - 48)) bs)
       | false ↦ refl
     ]
+
+-- the number that the digits still to come complete, where they are digits
+abbrev pub digits_after : ℕ → List ℕ → Option ℕ
+digits_after value bs = if list_all is_digit bs then Some (fold (λ n b. n * 10 + (b - 48)) value bs) else None
+
+-- a number of fewer than 19 digits has room in 64 bits for one more byte
+pub one-more : (value i : ℕ) → i < 19 → value < 10 ^ i → value * 10 + 255 < 2 ^ 64
+one-more value i few within =
+    let short : i ≤ 18 = omega arith in
+    let least : 10 ^ i ≤ 10 ^ 18 = pow-le-pow_right {n = 10} (omega arith) {i = i} {j = 18} short in
+    omega (arith, least)

@@ -8,4 +8,4 @@ mod Unquoted
 pub mod Plain
 pub mod Numbers
 pub mod ReadBack
-pub mod Dates
+mod Dates

@@ -1,7 +1,22 @@
 // The whole numbers that fields write.
-ghost use Rattle.std.specs.Prelude.{◌≡◌, ◌≤◌, ◌<◌, ◌+◌, ◌*◌, ◌^◌, nat_le, if◌then◌else◌, Some, None, IfSome, unsigned_abs};
+ghost use Rattle.std.specs.Prelude.{◌≡◌, ◌≤◌, ◌<◌, ◌+◌, ◌*◌, ◌^◌, nat_le, if◌then◌else◌, Some, None, IfSome, length, unsigned_abs};
 ghost use Rattle.std.specs.List.{list_all};
-ghost use Rattle.core_rows.specs.Fields.{at_most, digits_value, is_digit, number_of, positive, whole, wide};
+ghost use Rattle.core_rows.specs.Fields.{all_digits, at_most, digits_value, is_digit, number_of, positive, whole, wide};
+
+/// The number that a field of at most 19 digits writes. It fits 64 bits, so no digit is tested against the width.
+fn short_digits(field: &[u8]) -> Option<u64>
+    requires { length field.now ≤ 19 }
+    ensures { result ≡ all_digits field.now }
+{
+    let mut value = 0u64;
+    for b in field {
+        if !b.is_ascii_digit() {
+            return None;
+        }
+        value = value * 10 + u64::from(*b - b'0');
+    }
+    Some(value)
+}
 
 /// The value with one more digit at its end, where it is at most the greatest.
 fn with_digit(value: u128, digit: u8, greatest: u128) -> Option<u128>
@@ -11,9 +26,11 @@ fn with_digit(value: u128, digit: u8, greatest: u128) -> Option<u128>
     if value <= greatest { Some(value) } else { None }
 }
 
-/// The number that a field of digits writes, where it is at most the greatest.
-pub(crate) fn digits(field: &[u8], greatest: u128) -> Option<u128>
-    ensures value { result ≡ (if list_all is_digit field.now then at_most greatest (Some (digits_value field.now)) else None) }
+/// The number that a field of any number of digits writes, where it is at most the greatest.
+fn long_digits(field: &[u8], greatest: u128) -> Option<u128>
+    ensures value { result
+        ≡ (if list_all is_digit field.now
+        then at_most greatest (Some (digits_value field.now)) else None) }
     ensures bound { IfSome result (λ n. n ≤ greatest) }
 {
     let mut value = 0u128;
@@ -24,6 +41,20 @@ pub(crate) fn digits(field: &[u8], greatest: u128) -> Option<u128>
         value = with_digit(value, *b - b'0', greatest)?;
     }
     Some(value)
+}
+
+/// The number that a field of digits writes, where it is at most the greatest.
+pub(crate) fn digits(field: &[u8], greatest: u128) -> Option<u128>
+    ensures value { result
+        ≡ (if list_all is_digit field.now
+        then at_most greatest (Some (digits_value field.now)) else None) }
+    ensures bound { IfSome result (λ n. n ≤ greatest) }
+{
+    if field.len() > 19 {
+        return long_digits(field, greatest);
+    }
+    let value = u128::from(short_digits(field)?);
+    if value <= greatest { Some(value) } else { None }
 }
 
 /// The number that digits write, the first of which is not 0, where it is at most the greatest.

@@ -1,6 +1,6 @@
 use Rattle.std.proofs.Common.{◌≡◌, ◌≤◌, drop}
 use Rattle.core_rows.proofs.Digits.{more_digits}
-use Rattle.core_rows.proofs.number.digits.Given as goal
+use Rattle.core_rows.proofs.number.long_digits.Given as goal
 
 abbrev pub invariant-loop-b : goal.invariant-loop-b
 invariant-loop-b l = record {

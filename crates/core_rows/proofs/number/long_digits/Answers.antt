@@ -2,7 +2,7 @@ use Rattle.std.proofs.Common.{◌≡◌, ◌+◌, ◌-◌, ◌*◌, ◌∙◌, s
 use Rattle.std.proofs.lemmas.List.{drop_more}
 use Rattle.core_rows.specs.Fields.{at_most}
 use Rattle.core_rows.proofs.Digits.{more_digits, none_at}
-use Rattle.core_rows.proofs.number.digits.Goals as goal
+use Rattle.core_rows.proofs.number.long_digits.Goals as goal
 
 pub returns-in_err-value-clause-value : goal.returns-in_err-value-clause-value
 returns-in_err-value-clause-value c =
