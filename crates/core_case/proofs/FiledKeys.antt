@@ -3,10 +3,10 @@ use Rattle.std.proofs.Common.{◌≡◌, ◌∙◌, refl, sym, ap, subst, ℕ, L
 use Rattle.std.specs.List.{find}
 use Rattle.std.specs.Str.{bytes_eq}
 use Rattle.std.proofs.lemmas.Bool.{and_parts}
-use Rattle.std.proofs.lemmas.Cmp.{nat_list_eq_equiv}
+use Rattle.core_rows.proofs.NamePlaces.{bytes_eq-sym}
 use Rattle.std.proofs.lemmas.Slice.Eq.{bytes_eq-Decides}
-use Rattle.core_rows.specs.Names.{Record}
-use Rattle.core_case.specs.Kinds.{word_of, kinds, field, is_kind}
+use Rattle.core_rows.specs.Names.{Record, field}
+use Rattle.core_case.specs.Kinds.{word_of, kinds, is_kind}
 use Rattle.core_case.specs.Faults.{key_of, group_of, is_filed, is_in_group}
 use Rattle.core_case.specs.declared.kinds.RecordKind.{RecordKind}
 use Rattle.core_case.specs.declared.kinds.RecordKind.TheVariants.{Core, House, Market, Holiday, Instrument, Limit, Pool, Member, Scenario, Path, Position, Collateral, Cash, End}
@@ -64,10 +64,6 @@ kind-test kind k r h = split (is_kind k r) refl
     split true e = sym (true_same the_type kind k (one-kind kind k r h e))
     split false e = sym (false_same the_type tt kind k (λ same. true≢false (sym h ∙ ap (λ x. is_kind x r) same ∙ e)))
 
--- the test of bytes either way round
-bytes-turn : (xs ys : List ℕ) → bytes_eq xs ys ≡ bytes_eq ys xs
-bytes-turn xs ys = nat_list_eq_equiv.symm xs ys
-
 -- three tests, of which the later two need agree only where the first holds
 three-tests : (a b c a' b' c' : Bool) → a ≡ a' → (a ≡ true → b ≡ b') → (a ≡ true → c ≡ c') → (a && b && c) ≡ (a' && (b' && c'))
 three-tests true b c a' b' c' first second third = let e = second refl in let d = third refl in rw (← first, e, d) refl
@@ -95,15 +91,15 @@ key-test kind r key k h of =
     let here : is_kind key.kind r ≡ true = subst (λ (x : RecordKind). is_kind x r ≡ true) (sym of.kind_is) h in
     three-tests (is_kind k.kind r) (bytes_eq k.first.now (key_of k.kind r).0) (bytes_eq k.second.now (key_of k.kind r).1) (same_kind key.kind k.kind)
     (bytes_eq key.first.now k.first.now) (bytes_eq key.second.now k.second.now) (kind-test key.kind k.kind r here)
-    (λ e. ap (λ x. bytes_eq k.first.now (key_of x r).0) (one-kind k.kind kind r e h) ∙ ap (bytes_eq k.first.now) (sym of.first_is) ∙ bytes-turn k.first.now key.first.now)
-    (λ e. ap (λ x. bytes_eq k.second.now (key_of x r).1) (one-kind k.kind kind r e h) ∙ ap (bytes_eq k.second.now) (sym of.second_is) ∙ bytes-turn k.second.now key.second.now)
+    (λ e. ap (λ x. bytes_eq k.first.now (key_of x r).0) (one-kind k.kind kind r e h) ∙ ap (bytes_eq k.first.now) (sym of.first_is) ∙ bytes_eq-sym k.first.now key.first.now)
+    (λ e. ap (λ x. bytes_eq k.second.now (key_of x r).1) (one-kind k.kind kind r e h) ∙ ap (bytes_eq k.second.now) (sym of.second_is) ∙ bytes_eq-sym k.second.now key.second.now)
 
 -- a record is counted in the groups that equal its own
 pub group-test : (kind : RecordKind) (r : Record) (group g : Group) → is_kind kind r ≡ true → IsGroupOf kind r group → is_in_group g.kind g.market.now r ≡ same_group group g
 group-test kind r group g h of =
     let here : is_kind group.kind r ≡ true = subst (λ (x : RecordKind). is_kind x r ≡ true) (sym of.kind_is) h in
     two-tests (is_kind g.kind r) (bytes_eq g.market.now (group_of g.kind r)) (same_kind group.kind g.kind) (bytes_eq group.market.now g.market.now) (kind-test group.kind g.kind r here)
-    (λ e. ap (λ x. bytes_eq g.market.now (group_of x r)) (one-kind g.kind kind r e h) ∙ ap (bytes_eq g.market.now) (sym of.market_is) ∙ bytes-turn g.market.now group.market.now)
+    (λ e. ap (λ x. bytes_eq g.market.now (group_of x r)) (one-kind g.kind kind r e h) ∙ ap (bytes_eq g.market.now) (sym of.market_is) ∙ bytes_eq-sym g.market.now group.market.now)
 
 -- equal keys are of one kind and have the same words
 pub record AreAlike (a b : Key) : Type 0 where

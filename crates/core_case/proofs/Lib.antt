@@ -1,26 +1,22 @@
-pub mod FiledKeys
-pub mod FiledMore
-pub mod FiledRows
-pub mod Filters
-pub mod FormsDates
-pub mod FormsFirst
-pub mod FormsWalk
-pub mod LinesKept
+mod FiledKeys
+mod FiledMore
+mod FiledRows
+mod Filters
+mod FormsDates
+mod LinesKept
 mod Lookups
-pub mod NamesDeclared
-pub mod NamesKept
-pub mod NamesSound
-pub mod ReadingCase
-pub mod ReadingCount
-pub mod ReadingFaults
-pub mod ReadingRows
-pub mod SoundRecord
-pub mod StateNames
-pub mod StatePlaces
-pub mod StateRows
-pub mod StateWhole
+mod NamesDeclared
+mod NamesKept
+mod NamesSound
+mod ReadingCase
+mod ReadingFaults
+mod ReadingRows
+mod SoundRecord
+mod StateNames
+mod StateRows
+mod StateWhole
 pub mod StatedCases
-pub mod WholeDays
-pub mod WholeLists
-pub mod WholeOfSound
-pub mod WholeRecords
+mod WholeDays
+mod WholeLists
+mod WholeOfSound
+mod WholeRecords

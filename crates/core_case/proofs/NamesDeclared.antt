@@ -7,15 +7,16 @@ use Rattle.std.proofs.lemmas.List.Sums.{passes_at_first}
 use Rattle.std.specs.Option.{unwrap_or}
 use Rattle.std.specs.Str.{bytes_eq}
 use Rattle.core_sums.specs.Places.{row_at}
-use Rattle.core_rows.specs.Names.{Record}
+use Rattle.core_rows.specs.Names.{Record, field, place_of}
 use Rattle.core_case.specs.declared.kinds.RecordKind.{RecordKind}
 use Rattle.core_case.specs.declared.kinds.RecordKind.TheVariants.{Market}
 use Rattle.core_case.specs.declared.faults.RecordFault.TheVariants.{Undeclared}
-use Rattle.core_case.specs.Kinds.{field, is_kind, key_length}
-use Rattle.core_case.specs.Faults.{first_of, of_kind, key_of, key_of_length, is_filed, filed, name_step, is_declared, house_name}
-use Rattle.core_case.specs.Stated.{declared_names, market_names, place_of}
+use Rattle.core_case.specs.Kinds.{is_kind, key_length}
+use Rattle.core_case.specs.Faults.{of_kind, key_of, key_of_length, is_filed, filed, name_step, is_declared, house_name}
+use Rattle.core_rows.specs.Steps.{first_of}
+use Rattle.core_case.specs.Stated.{declared_names, market_names}
 use Rattle.core_case.proofs.Filters.{FoundAt, found-at, position-below, position-kept, first-kept}
-use Rattle.core_case.proofs.SoundRecord.{holds-from_none, first_of-parts}
+use Rattle.core_rows.proofs.FirstStep.{holds-from_none, first_of-parts}
 use Rattle.core_case.proofs.NamesSound.{same-bytes, bytes-same}
 
 -- the first name that a sound record refers to is declared before, and so are the others

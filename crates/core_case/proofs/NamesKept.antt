@@ -5,13 +5,13 @@ use Rattle.std.proofs.lemmas.List.{length-map}
 use Rattle.std.specs.List.{All, AllPairs}
 use Rattle.std.specs.Str.{bytes_eq}
 use Rattle.core_sums.specs.Places.{row_at}
-use Rattle.core_rows.specs.Names.{Record}
+use Rattle.core_rows.specs.Names.{Record, field, place_of}
 use Rattle.core_rows.specs.Fields.{IsName}
 use Rattle.core_case.specs.declared.kinds.RecordKind.{RecordKind}
 use Rattle.core_case.specs.declared.kinds.RecordKind.TheVariants.{Market, Instrument, Pool, Member, Scenario}
-use Rattle.core_case.specs.Kinds.{field, is_kind, number_in, key_length}
+use Rattle.core_case.specs.Kinds.{is_kind, number_in, key_length}
 use Rattle.core_case.specs.Faults.{first_fault, of_kind, key_of, filed, is_declared, is_keyed, house_name}
-use Rattle.core_case.specs.Stated.{case_of, declared_names, market_names, place_of, holidays_of, instrument_of_record, pool_of_record, member_of_record}
+use Rattle.core_case.specs.Stated.{case_of, declared_names, market_names, holidays_of, instrument_of_record, pool_of_record, member_of_record}
 use Rattle.core_case.specs.Kept.{IsIn, IsInstrument, IsMember}
 use Rattle.core_case.proofs.Filters.{All-map_filter_at, AllPairs-map_filter_at, AllPairs-cons}
 use Rattle.core_case.proofs.WholeRecords.{sound-of, number-between, natural-between}

@@ -6,14 +6,14 @@ use Rattle.std.proofs.lemmas.Slice.Eq.{bytes_eq-Decides}
 use Rattle.std.specs.List.{list_all}
 use Rattle.std.specs.Str.{bytes_eq}
 use Rattle.core_sums.specs.Places.{row_at}
-use Rattle.core_rows.specs.Names.{Record}
+use Rattle.core_rows.specs.Names.{Record, field}
 use Rattle.core_rows.specs.Fields.{name_of, is_name_byte, IsName}
 use Rattle.core_case.specs.declared.kinds.RecordKind.{RecordKind}
 use Rattle.core_case.specs.declared.forms.Form.TheVariants.{Name}
-use Rattle.core_case.specs.Kinds.{field, is_kind, key_length, most_records}
+use Rattle.core_case.specs.Kinds.{is_kind, key_length, most_records}
 use Rattle.core_case.specs.Faults.{first_fault, form_fault, of_kind, key_of, key_of_length, is_filed, filed, is_keyed, is_market, house_name, group_of, is_in_group}
 use Rattle.core_case.proofs.Filters.{none-before}
-use Rattle.core_case.proofs.SoundRecord.{holds-from_none}
+use Rattle.core_rows.proofs.FirstStep.{holds-from_none}
 use Rattle.core_case.proofs.WholeRecords.{sound-of, count-kept}
 
 -- equal bytes

@@ -10,12 +10,8 @@ use Rattle.core_case.specs.View.{CaseView}
 use Rattle.core_case.specs.Whole.{IsWhole}
 use Rattle.core_case.specs.declared.read.CaseFault.{CaseFault}
 use Rattle.core_case.specs.declared.read.CaseFault.TheVariants.{Bad, NoMemory}
-use Rattle.core_case.proofs.ReadingCount.{records-count}
+use Rattle.core_rows.proofs.RecordCount.{few-records}
 use Rattle.core_case.proofs.WholeOfSound.{whole-of-sound}
-
--- there are not too many records to number
-pub few-records : (bytes : List ℕ) (rows : List Record) → length bytes ≤ 4194304 → rows ≡ records bytes → length rows < 2147483648
-few-records bytes rows short are = omega (arith, short, ap length are, records-count bytes)
 
 -- the fault of records that are sound up to their end
 pub fault-at_end : (bytes : List ℕ) (rows register : List Record) → rows ≡ records bytes → register ≡ rows → first_fault rows ≡ missing_end rows

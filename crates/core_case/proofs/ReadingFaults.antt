@@ -4,11 +4,12 @@ use Rattle.std.specs.Option.{option_or}
 use Rattle.std.specs.List.{find}
 use Rattle.core_rows.specs.Names.{Record}
 use Rattle.core_case.specs.Kinds.{kinds, is_kind, kind_of, forms}
-use Rattle.core_case.specs.Faults.{fault_unless, has_ended, end_before, kind_step, own_fault, book_fault, later_fault, fault_of, horizon_in, last_in}
+use Rattle.core_case.specs.Faults.{has_ended, end_before, kind_step, own_fault, book_fault, later_fault, fault_of, horizon_in, last_in}
+use Rattle.core_rows.specs.Steps.{fault_unless}
 use Rattle.core_case.specs.declared.kinds.RecordKind.{RecordKind}
 use Rattle.core_case.specs.declared.faults.RecordFault.{RecordFault}
 use Rattle.core_case.specs.declared.faults.RecordFault.TheVariants.{AfterEnd}
-use Rattle.core_case.proofs.FormsFirst.{first_of-fails, first_of-passes, first_of-last}
+use Rattle.core_rows.proofs.FirstStep.{first_of-fails, first_of-passes, first_of-last}
 
 -- what a search finds at an item or after it passes its test
 found-or : {X : Type 0} (p : X → Bool) (x y : X) (b : Bool) (later : Option X) → p y ≡ b → (later ≡ Some x → p x ≡ true)
@@ -19,7 +20,7 @@ found-or {X} p x y true later here more e =
 found-or p x y false later here more e = more e
 
 -- what a search finds passes its test
-find-passes : {X : Type 0} (p : X → Bool) (xs : List X) (x : X) → find p xs ≡ Some x → p x ≡ true
+pub find-passes : {X : Type 0} (p : X → Bool) (xs : List X) (x : X) → find p xs ≡ Some x → p x ≡ true
 find-passes p [] x e = absurd (cc)
 find-passes p (y ∷ ys) x e = found-or p x y (p y) (find p ys) refl (find-passes p ys x) e
 

@@ -1,7 +1,8 @@
 -- The records of a case are read one by one.
-use Rattle.std.proofs.Common.{◌≡◌, sym, ◌∙◌, refl, ap, subst, ℕ, suc, ◌+◌, ◌<◌, ◌≤◌, List, [], ◌∷◌, ◌++◌, length, get_or, take, drop, drop-cons, arith, false, Option, Some, None}
+use Rattle.std.proofs.Common.{◌≡◌, sym, ◌∙◌, refl, ap, subst, ℕ, suc, ◌+◌, ◌<◌, ◌≤◌, List, [], ◌∷◌, ◌++◌, length, get_or, take, drop, arith, false, Option, Some, None}
 use Rattle.std.proofs.lemmas.List.{take_more, take_all, drop_all, length-take-le}
 use Rattle.core_rows.specs.Names.{Record}
+use Rattle.core_rows.proofs.OneByOne.{left-is}
 use Rattle.core_case.specs.Codes.{code_of}
 use Rattle.core_case.specs.Faults.{Faulty, fault_of, first_fault, first_fault_after, has_ended, missing_end}
 use Rattle.core_case.specs.Refusals.{IsFault}
@@ -28,12 +29,6 @@ sound-past earlier rs r e =
 none-left : (earlier : List Record) → first_fault_after earlier [] ≡ missing_end earlier
 unfolding first_fault_after
 none-left earlier = refl
-
--- the records left are the one at hand and those after it
-left-is : (rows : List Record) (i : ℕ) (row : Record) → i < length rows → row ≡ get_or rows i row → drop i rows ≡ row ∷ drop (i + 1) rows
-left-is rows i row within at =
-    let next : suc i ≡ i + 1 = omega arith in
-    drop-cons rows i row within ∙ ap (λ r. r ∷ drop (suc i) rows) (sym at) ∙ ap (λ n. row ∷ drop n rows) next
 
 -- a faulty record at hand is the first of all
 pub row-faulty : (rows register : List Record) (i : ℕ) (row : Record) (fault : RecordFault) → i < length rows → row ≡ get_or rows i row

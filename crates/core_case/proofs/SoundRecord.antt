@@ -5,15 +5,19 @@ use Rattle.std.specs.List.{find}
 use Rattle.std.proofs.lemmas.Bool.{eqb-true, cases_lt}
 use Rattle.std.proofs.lemmas.List.{append-nil, append_assoc, length-append, take_at, get_or_at, get_or-drop}
 use Rattle.core_sums.specs.Places.{row_at}
-use Rattle.core_rows.specs.Names.{Record}
+use Rattle.core_rows.specs.Names.{Record, field}
 use Rattle.core_case.specs.declared.kinds.RecordKind.{RecordKind}
 use Rattle.core_case.specs.declared.kinds.RecordKind.TheVariants.{Core}
 use Rattle.core_case.specs.declared.forms.Form.{Form}
 use Rattle.core_case.specs.declared.forms.Form.TheVariants.{Version}
 use Rattle.core_case.specs.declared.faults.RecordFault.{RecordFault}
 use Rattle.core_case.specs.declared.faults.RecordFault.TheVariants.{EndMissing}
-use Rattle.core_case.specs.Kinds.{field, is_kind, kind_of, kinds, forms, references}
-use Rattle.core_case.specs.Faults.{Faulty, fault_of, fault_unless, first_fault, first_fault_after, missing_end, first_of, by_form, end_before, kind_step, later_fault, own_fault, book_fault, form_fault, range_fault, horizon_in, last_in, order_step, zero_step, name_step, security_step, repeats, has_room, end_step, has_ended}
+use Rattle.core_case.specs.Kinds.{is_kind, kind_of, kinds, forms, references}
+use Rattle.core_case.specs.Faults.{Faulty, fault_of, first_fault, first_fault_after, missing_end, end_before, kind_step, later_fault, own_fault, book_fault, form_fault, range_fault, horizon_in, last_in, order_step, zero_step, name_step, security_step, repeats, has_room, end_step, has_ended}
+use Rattle.core_rows.specs.Steps.{fault_unless, first_of, by_form}
+use Rattle.core_rows.proofs.FirstStep.{holds-from_none, fails-from_none, neither, first_of-parts}
+use Rattle.core_rows.proofs.FieldWalk.{field-at}
+use Rattle.core_case.proofs.ReadingFaults.{find-passes}
 
 -- the steps that a sound record of a kind passes, among the records before it
 pub record SoundRecord (earlier : List Record) (r : Record) (kind : RecordKind) : Type 0 where
@@ -33,54 +37,6 @@ pub record SoundRecord (earlier : List Record) (r : Record) (kind : RecordKind) 
   pub room : has_room earlier r kind ≡ true
   pub complete : end_step earlier kind ≡ None
 
--- a test that gives no fault holds
-pub holds-from_none : (b : Bool) (fault : RecordFault) → fault_unless b fault ≡ None → b ≡ true
-holds-from_none true fault e = refl
-holds-from_none false fault e = absurd (cc)
-
--- a test that is turned and gives no fault fails
-pub fails-from_none : (b : Bool) (fault : RecordFault) → fault_unless (not b) fault ≡ None → b ≡ false
-fails-from_none true fault e = absurd (cc)
-fails-from_none false fault e = refl
-
--- where one of two or the other gives none, neither is there
-neither : (x y : Option RecordFault) → option_or x y ≡ None → (x ≡ None) × (y ≡ None)
-neither None y e = (refl, e)
-neither (Some fault) y e = absurd (cc)
-
--- where no step of a list has a fault, the first has none, nor has any after it
-pub first_of-parts : (x : Option RecordFault) (xs : List (Option RecordFault)) → first_of (x ∷ xs) ≡ None → (x ≡ None) × (first_of xs ≡ None)
-unfolding first_of
-first_of-parts x xs e = neither x (first_of xs) e
-
--- where the fields have no fault, each has none
-form-at : (test : Form → List ℕ → Option RecordFault) (fs : List Form) (r : Record) (n : ℕ) → length r ≡ length fs
-    → first_of (by_form test fs r) ≡ None → n < length fs → test (get_or fs n Version) (get_or r n []) ≡ None
-unfolding by_form
-form-at test [] r n same e within = absurd (omega (arith, within))
-form-at test (f ∷ fs) [] n same e within = absurd (omega (arith, same))
-form-at test (f ∷ fs) (word ∷ r) zero same e within = (first_of-parts (test f word) (by_form test fs r) e).0
-form-at test (f ∷ fs) (word ∷ r) (suc n) same e within =
-    form-at test fs r n (omega (arith, same)) (first_of-parts (test f word) (by_form test fs r) e).1 (omega (arith, within))
-
--- the same of the fields after the kind
-field-at : (test : Form → List ℕ → Option RecordFault) (fs : List Form) (r : Record) → length r ≡ suc (length fs)
-    → first_of (by_form test fs (drop 1 r)) ≡ None → (n : ℕ) → n < length fs → test (get_or fs n Version) (field r (suc n)) ≡ None
-field-at test fs r count e n within =
-    let same : length (drop 1 r) ≡ length fs = omega (arith, count, length-drop 1 r) in
-    let place : 1 + n ≡ suc n = omega arith in
-    let word : get_or (drop 1 r) n [] ≡ field r (suc n) = get_or-drop 1 r n [] ∙ ap (λ k. field r k) place in
-    subst (λ (w : List ℕ). test (get_or fs n Version) w ≡ None) word (form-at test fs (drop 1 r) n same e within)
-
--- what is found passes the test
-found-passes : {X : Type 0} (p : X → Bool) (xs : List X) (x : X) → find p xs ≡ Some x → p x ≡ true
-found-passes p [] x e = absurd (cc)
-found-passes p (y ∷ ys) x e = split (found-passes p ys x) (p y) refl e
-  where
-    split : (find p ys ≡ Some x → p x ≡ true) → (b : Bool) → p y ≡ b → cond b (Some y) (find p ys) ≡ Some x → p x ≡ true
-    split rest true is here = let same : y ≡ x = cc in ap p (sym same) ∙ is
-    split rest false is here = rest here
-
 -- the steps of the record alone
 record OwnSound (place : ℕ) (fs : List Form) (r : Record) (kind : RecordKind) : Type 0 where
   order : order_step place kind ≡ None
@@ -93,16 +49,17 @@ record OwnSound (place : ℕ) (fs : List Form) (r : Record) (kind : RecordKind) 
 own-sound : (place : ℕ) (fs : List Form) (r : Record) (kind : RecordKind) → own_fault place fs r kind ≡ None → OwnSound place fs r kind
 own-sound place fs r kind e =
     let ordered = first_of-parts _ _ e in
-    let counted = first_of-parts _ _ ordered.1 in
+    let fields = first_of-parts _ _ ordered.1 in
+    let zeros = first_of-parts _ _ fields.1 in
+    let counted = first_of-parts _ _ fields.0 in
     let forms_are = first_of-parts _ _ counted.1 in
     let ranges_are = first_of-parts _ _ forms_are.1 in
-    let zeros = first_of-parts _ _ ranges_are.1 in
     let count : length r ≡ suc (length fs) = eqb-true (length r) (suc (length fs)) (holds-from_none _ _ counted.0) in
     record {
       order = ordered.0;
       count = count;
-      formed = field-at form_fault fs r count forms_are.0;
-      ranged = field-at range_fault fs r count ranges_are.0;
+      formed = field-at form_fault fs r Version count forms_are.0;
+      ranged = field-at range_fault fs r Version count ranges_are.0;
       not_zero = zeros.0;
     }
 
@@ -139,7 +96,7 @@ of-kind-sound earlier r kind kind_is going_on e =
     let book = book-sound earlier r kind parts.1 in
     record {
       kind_is = kind_is;
-      of_kind = found-passes (λ k. is_kind k r) kinds kind kind_is;
+      of_kind = find-passes (λ k. is_kind k r) kinds kind kind_is;
       going_on = going_on;
       order = own.order;
       count = own.count;

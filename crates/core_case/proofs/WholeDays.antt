@@ -10,14 +10,16 @@ use Rattle.std.specs.List.{All, find}
 use Rattle.std.specs.Str.{bytes_eq}
 use Rattle.core_sums.specs.Places.{row_at, below}
 use Rattle.core_sums.proofs.Lists.{length-below}
-use Rattle.core_rows.specs.Names.{Record}
+use Rattle.core_rows.proofs.NamePlaces.{bytes_eq-sym}
+use Rattle.core_rows.specs.Names.{Record, field}
 use Rattle.core_rows.specs.Fields.{day_of}
 use Rattle.core_case.specs.declared.kinds.RecordKind.TheVariants.{House, Market, Holiday, Cash}
-use Rattle.core_case.specs.Kinds.{field, is_kind, number_in}
+use Rattle.core_case.specs.Kinds.{is_kind, number_in}
 use Rattle.core_case.specs.Kept.{IsIn, IsStart, IsHoliday, AreIn}
 use Rattle.core_case.specs.Faults.{first_fault, first_date, last_start, last_holiday, last_in, of_kind, is_in_group, count_in}
 use Rattle.core_case.specs.Stated.{case_of, day_in, holidays_of, market_names, declared_names, cash_on}
-use Rattle.core_case.proofs.SoundRecord.{SoundRecord, holds-from_none}
+use Rattle.core_case.proofs.SoundRecord.{SoundRecord}
+use Rattle.core_rows.proofs.FirstStep.{holds-from_none}
 use Rattle.core_case.proofs.Filters.{All-filter_at}
 use Rattle.core_case.proofs.WholeRecords.{house-sound, many-records, in-form, count-kept, some-between, number-between, natural-between}
 
@@ -64,18 +66,6 @@ filter-filter {A} p q both same (x ∷ xs) = by (p x) (filter-filter p q both sa
     by : (b : Bool) → filter q (filter p xs) ≡ filter both xs → filter q (cond b (x ∷ filter p xs) (filter p xs)) ≡ cond (b && q x) (x ∷ filter both xs) (filter both xs)
     by true rest = inner (q x) rest
     by false rest = rest
-
--- two tests that pass together are the same
-same-test : (a b : Bool) → (a ≡ true → b ≡ true) → (b ≡ true → a ≡ true) → a ≡ b
-same-test true b there back = sym (there refl)
-same-test false true there back = back refl
-same-test false false there back = refl
-
--- equal bytes are equal either way
-bytes_eq-sym : (xs ys : List ℕ) → bytes_eq xs ys ≡ bytes_eq ys xs
-bytes_eq-sym xs ys = same-test (bytes_eq xs ys) (bytes_eq ys xs)
-    (λ h. (bytes_eq-Decides ys xs).1 (sym ((bytes_eq-Decides xs ys).0 h)))
-    (λ h. (bytes_eq-Decides xs ys).1 (sym ((bytes_eq-Decides ys xs).0 h)))
 
 -- the holidays of a market are no more than a case takes
 few-holidays : (rs : List Record) → first_fault rs ≡ None → (market : List ℕ) → length (holidays_of rs market) ≤ 400

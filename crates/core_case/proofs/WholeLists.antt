@@ -7,13 +7,13 @@ use Rattle.std.proofs.lemmas.List.Sums.{AllPass-from_list_all}
 use Rattle.std.specs.Option.{unwrap_or}
 use Rattle.std.specs.List.{All, find, list_all}
 use Rattle.core_sums.specs.Places.{row_at}
-use Rattle.core_rows.specs.Names.{Record}
+use Rattle.core_rows.specs.Names.{Record, field}
 use Rattle.core_rows.specs.Fields.{whole}
 use Rattle.core_case.specs.declared.kinds.RecordKind.{RecordKind}
 use Rattle.core_case.specs.declared.kinds.RecordKind.TheVariants.{Instrument, Limit, Scenario, Path}
 use Rattle.core_case.specs.declared.forms.Form.{Form}
 use Rattle.core_case.specs.declared.forms.Form.TheVariants.{Version, Name, Number}
-use Rattle.core_case.specs.Kinds.{field, is_kind, number_in}
+use Rattle.core_case.specs.Kinds.{is_kind, number_in}
 use Rattle.core_case.specs.Kept.{IsIn, AreIn}
 use Rattle.core_case.specs.Faults.{first_fault, form_fault, range_fault, horizon_in, last_in, of_kind, is_filed, filed, has_limit, has_path, is_complete}
 use Rattle.core_case.specs.Stated.{case_of, declared_names, instrument_of_record, numbers_from, limits_of, prices_of}

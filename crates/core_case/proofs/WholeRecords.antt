@@ -8,15 +8,16 @@ use Rattle.std.specs.Option.{unwrap_or}
 use Rattle.std.specs.List.{find}
 use Rattle.std.specs.Str.{bytes_eq}
 use Rattle.core_sums.specs.Places.{row_at}
-use Rattle.core_rows.specs.Names.{Record}
+use Rattle.core_rows.specs.Names.{Record, field}
 use Rattle.core_rows.specs.Fields.{whole}
 use Rattle.core_case.specs.declared.kinds.RecordKind.{RecordKind}
 use Rattle.core_case.specs.declared.kinds.RecordKind.TheVariants.{Core, House, Market, Holiday, Instrument, Limit, Pool, Member, Scenario, Path, Position, Collateral, Cash, End}
 use Rattle.core_case.specs.declared.forms.Form.TheVariants.{Version, Number}
-use Rattle.core_case.specs.Kinds.{field, is_kind, kind_of, kinds, word_of, forms, number_in, natural_in, most_records}
+use Rattle.core_case.specs.Kinds.{is_kind, kind_of, kinds, word_of, forms, number_in, natural_in, most_records}
 use Rattle.core_case.specs.Kept.{IsIn}
 use Rattle.core_case.specs.Faults.{first_fault, form_fault, range_fault, is_between, horizon_in, last_in, is_core_or_house, is_house, order_step, group_of, is_in_group, is_below, count_in, has_room, is_filed, is_complete}
-use Rattle.core_case.proofs.SoundRecord.{SoundRecord, sound-at, by-one-more, ended, first-core, holds-from_none}
+use Rattle.core_case.proofs.SoundRecord.{SoundRecord, sound-at, by-one-more, ended, first-core}
+use Rattle.core_rows.proofs.FirstStep.{holds-from_none}
 use Rattle.core_case.proofs.Filters.{length-filter_push, found-at, none-before}
 
 -- the first kind with the word of a kind is this kind

@@ -1,12 +1,13 @@
 -- The first faulty record of a case, and its fault. A record is judged by the sound records before it, in the order
 -- of the steps below, and the first step that fails gives the fault.
-use Rattle.std.specs.Prelude.{ℕ, zero, suc, List, [], ◌∷◌, ◌++◌, length, map, filter, drop, codes, ℤ, pos, negsuc, int_le, Bool, true, false, not, ◌&&◌, ◌||◌, ◌==◌, nat_lt, if◌then◌else◌, Option, Some, None, is_some}
+use Rattle.std.specs.Prelude.{ℕ, zero, suc, List, [], ◌∷◌, ◌++◌, length, map, filter, codes, ℤ, pos, negsuc, int_le, Bool, true, false, not, ◌&&◌, ◌||◌, nat_lt, if◌then◌else◌, Option, Some, None, is_some}
 use Rattle.std.specs.Ordering.{int_eq}
 use Rattle.std.specs.Option.{option_or, unwrap_or}
 use Rattle.std.specs.List.{list_all, find}
 use Rattle.std.specs.Str.{bytes_eq}
 use Rattle.core_sums.specs.Places.{row_at}
-use Rattle.core_rows.specs.Names.{Record}
+use Rattle.core_rows.specs.Names.{Record, field}
+use Rattle.core_rows.specs.Steps.{fault_unless, fields_fault, first_of}
 use Rattle.core_rows.specs.Fields.{whole, name_of, day_of}
 use Rattle.core_case.specs.declared.kinds.RecordKind.{RecordKind}
 use Rattle.core_case.specs.declared.kinds.RecordKind.TheVariants.{Core, House, Market, Holiday, Instrument, Limit, Scenario, Path, Position, Collateral, End}
@@ -14,17 +15,7 @@ use Rattle.core_case.specs.declared.forms.Form.{Form}
 use Rattle.core_case.specs.declared.forms.Form.TheVariants.{Version, Name, InstrumentKind, Number, StartDate, HolidayDate}
 use Rattle.core_case.specs.declared.faults.RecordFault.{RecordFault}
 use Rattle.core_case.specs.declared.faults.RecordFault.TheVariants.{FirstNotCore, NotVersionOne, UnknownKind, OutOfOrder, FieldCount, NotAName, NotANumber, NotADate, NotAnInstrumentKind, OutOfRange, Undeclared, Repeated, TooMany, CollateralOfFuture, Incomplete, AfterEnd, EndMissing}
-use Rattle.core_case.specs.Kinds.{field, kind_of, is_kind, forms, references, key_length, most_records, number_in, natural_in}
-
--- a fault where the test fails
-abbrev pub fault_unless : Bool → RecordFault → Option RecordFault
-fault_unless true fault = None
-fault_unless false fault = Some fault
-
--- the first fault of a list of steps
-unfoldable pub first_of : List (Option RecordFault) → Option RecordFault
-first_of [] = None
-first_of (x ∷ xs) = option_or x (first_of xs)
+use Rattle.core_case.specs.Kinds.{kind_of, is_kind, forms, references, key_length, most_records, number_in, natural_in}
 
 -- the records of a kind
 abbrev pub of_kind : RecordKind → List Record → List Record
@@ -81,11 +72,7 @@ order_step zero kind = None
 order_step (suc zero) kind = fault_unless (is_house kind) OutOfOrder
 order_step (suc (suc n)) kind = fault_unless (not (is_core_or_house kind)) OutOfOrder
 
--- step 4: the number of fields
-abbrev pub count_step : List Form → Record → Option RecordFault
-count_step fs r = fault_unless (length r == suc (length fs)) FieldCount
-
--- step 5: the form of each field, from left to right
+-- step 4: the number of fields, then step 5: the form of each field, from left to right
 abbrev pub is_instrument_kind : List ℕ → Bool
 is_instrument_kind word = bytes_eq word (codes "future") || bytes_eq word (codes "security")
 
@@ -120,12 +107,6 @@ range_fault (Number low high) word = fault_unless (is_between low high (whole wo
 range_fault StartDate word = fault_unless (is_between first_date last_start (day_of word)) OutOfRange
 range_fault HolidayDate word = fault_unless (is_between first_date last_holiday (day_of word)) OutOfRange
 
--- a test of each field by its form
-unfoldable pub by_form : (Form → List ℕ → Option RecordFault) → List Form → Record → List (Option RecordFault)
-by_form test [] r = []
-by_form test (f ∷ fs) [] = []
-by_form test (f ∷ fs) (word ∷ r) = test f word ∷ by_form test fs r
-
 -- and no position is 0
 abbrev pub zero_step : Record → RecordKind → Option RecordFault
 zero_step r Position = fault_unless (not (int_eq (number_in r 2) (pos 0))) OutOfRange
@@ -136,9 +117,7 @@ abbrev pub own_fault : ℕ → List Form → Record → RecordKind → Option Re
 own_fault place fs r kind =
     first_of
     (order_step place kind
-    ∷ count_step fs r
-    ∷ first_of (by_form form_fault fs (drop 1 r))
-    ∷ first_of (by_form range_fault fs (drop 1 r))
+    ∷ fields_fault FieldCount form_fault range_fault fs r
     ∷ zero_step r kind
     ∷ [])
 

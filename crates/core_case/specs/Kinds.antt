@@ -1,10 +1,10 @@
 -- The kinds of records of a case, one row a kind: its word, the fields that it has after it, the names that it refers
 -- to, its key, and how many records of it a case takes.
-use Rattle.std.specs.Prelude.{ℕ, suc, ◌-◌, ◌^◌, List, [], ◌∷◌, codes, get_or, replicate, ℤ, pos, negsuc, Bool, Option, Some, None, unsigned_abs}
+use Rattle.std.specs.Prelude.{ℕ, suc, ◌-◌, ◌^◌, List, [], ◌∷◌, codes, replicate, ℤ, pos, negsuc, Bool, Option, Some, None, unsigned_abs}
 use Rattle.std.specs.List.{find}
 use Rattle.std.specs.Option.{unwrap_or}
 use Rattle.std.specs.Str.{bytes_eq}
-use Rattle.core_rows.specs.Names.{Record}
+use Rattle.core_rows.specs.Names.{Record, field}
 use Rattle.core_rows.specs.Fields.{whole}
 use Rattle.core_case.specs.declared.kinds.RecordKind.{RecordKind}
 use Rattle.core_case.specs.declared.kinds.RecordKind.TheVariants.{Core, House, Market, Holiday, Instrument, Limit, Pool, Member, Scenario, Path, Position, Collateral, Cash, End}
@@ -30,10 +30,6 @@ word_of End = codes "end"
 
 abbrev pub kinds : List RecordKind
 kinds = Core ∷ House ∷ Market ∷ Holiday ∷ Instrument ∷ Limit ∷ Pool ∷ Member ∷ Scenario ∷ Path ∷ Position ∷ Collateral ∷ Cash ∷ End ∷ []
-
--- the field of a record at a place, where 0 is the kind
-abbrev pub field : Record → ℕ → List ℕ
-field r n = get_or r n []
 
 -- whether a record is of a kind
 abbrev pub is_kind : RecordKind → Record → Bool

@@ -2,14 +2,14 @@
 use Rattle.std.specs.Prelude.{ℕ, suc, List, [], ◌∷◌, map, filter, drop, ℤ, pos, negsuc, unsigned_abs, int_lt, ◌||◌, if◌then◌else◌, Option, Some, None, Result, Ok, Err}
 use Rattle.std.specs.Option.{unwrap_or}
 use Rattle.std.specs.Ordering.{int_eq}
-use Rattle.std.specs.List.{find, position_or_len}
+use Rattle.std.specs.List.{find}
 use Rattle.std.specs.Str.{bytes_eq}
 use Rattle.core_sums.specs.Places.{below, row_at}
-use Rattle.core_rows.specs.Names.{Record}
+use Rattle.core_rows.specs.Names.{Record, field, place_of}
 use Rattle.core_rows.specs.Fields.{whole, day_of, records}
 use Rattle.core_case.specs.declared.kinds.RecordKind.{RecordKind}
 use Rattle.core_case.specs.declared.kinds.RecordKind.TheVariants.{Market, Holiday, Instrument, Limit, Pool, Member, Scenario, Path, Position, Collateral, Cash}
-use Rattle.core_case.specs.Kinds.{field, is_kind, number_in, natural_in}
+use Rattle.core_case.specs.Kinds.{is_kind, number_in, natural_in}
 use Rattle.core_case.specs.Faults.{Faulty, of_kind, filed, horizon_in, last_in, house_name, is_future, first_fault}
 use Rattle.core_case.specs.Codes.{code_of}
 use Rattle.core_case.specs.View.{CaseView}
@@ -31,10 +31,6 @@ declared_names kind rs = names_in (of_kind kind rs)
 -- market 0 is the house
 abbrev pub market_names : List Record → List (List ℕ)
 market_names rs = house_name ∷ declared_names Market rs
-
--- the place of a name in a list, its length where the name is not there
-abbrev pub place_of : List ℕ → List (List ℕ) → ℕ
-place_of name names = position_or_len (bytes_eq name) names
 
 -- the numbers of a record from a field on
 abbrev pub numbers_from : ℕ → Record → List ℤ

@@ -1,37 +1,19 @@
 // Fields of a record: words, and the numbers and days that they write.
 ghost use Rattle.std.specs.Prelude.{◌≡◌, ◌<◌, ◌^◌, Some};
-ghost use Rattle.std.specs.Str.{bytes_eq};
 ghost use Rattle.jiff.specs.Words.{epoch_day};
 ghost use Rattle.core_rows.specs.Fields.{whole, day_of};
-ghost use Rattle.core_case.specs.Kinds.{field, number_in, natural_in};
+ghost use Rattle.core_case.specs.Kinds.{number_in, natural_in};
 ghost use Rattle.core_case.specs.Faults.{first_date, is_between, last_holiday, last_start};
 ghost use Rattle.core_case.specs.Stated.{day_in};
 
 use core_rows::{Fields, day_text, whole};
 use jiff::civil::{Date, date};
 
-/// The field at an index, empty where the record has none.
-pub(crate) fn word(row: &Fields, i: usize) -> &[u8]
-    ensures { result.now ≡ field row.now i }
-{
-    match row.field(i) {
-        Some(word) => word,
-        None => &[],
-    }
-}
-
-/// Whether two words are the same.
-pub(crate) fn same(word: &[u8], other: &[u8]) -> bool
-    ensures { result ≡ bytes_eq word.now other.now }
-{
-    word == other
-}
-
 /// The number in a field, 0 where it writes none.
 pub(crate) fn number_in(row: &Fields, i: usize) -> i64
     ensures { result ≡ number_in row.now i }
 {
-    whole(word(row, i)).unwrap_or(0)
+    whole(row.word(i)).unwrap_or(0)
 }
 
 /// The absolute value of the number in a field, 0 where it writes none.
@@ -46,7 +28,7 @@ pub(crate) fn natural_in(row: &Fields, i: usize) -> usize
 pub(crate) fn day_in(row: &Fields, i: usize) -> Date
     ensures { epoch_day result ≡ day_in row.now i }
 {
-    match day_text(word(row, i)) {
+    match day_text(row.word(i)) {
         Some(day) => day,
         None => date(1970, 1, 1),
     }

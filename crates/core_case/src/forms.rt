@@ -3,15 +3,17 @@ ghost use Rattle.std.specs.Prelude.{◌≡◌, ◌<◌, ◌^◌, [], suc, length
 ghost use Rattle.jiff.specs.Words.{epoch_day};
 ghost use Rattle.core_rows.specs.Fields.{day_of};
 ghost use Rattle.core_case.specs.Kinds.{forms};
-ghost use Rattle.core_case.specs.Faults.{by_form, fault_unless, first_date, first_of, form_fault, is_between, order_step, own_fault, range_fault, zero_step};
+ghost use Rattle.core_case.specs.Faults.{first_date, form_fault, is_between, order_step, own_fault, range_fault, zero_step};
+ghost use Rattle.core_rows.specs.Steps.{by_form, fault_unless, first_of};
 ghost use Rattle.core_case.specs.declared.faults.RecordFault.TheVariants.{NotADate, OutOfRange};
 ghost use Rattle.core_case.specs.declared.forms.Form.TheVariants.{Version, Number};
 ghost use Rattle.core_case.specs.declared.kinds.RecordKind.TheVariants.{Instrument};
 
 use crate::faults::RecordFault;
-use crate::fields::{day_is_between, first_date, last_holiday, last_start, number_in, same, word};
+use crate::fields::{day_is_between, first_date, last_holiday, last_start, number_in};
 use crate::kinds::RecordKind;
-use core_rows::{Fields, day_text, name_of, whole};
+use crate::spans::Spans;
+use core_rows::{Fields, day_text, name_of, same, whole};
 use jiff::civil::Date;
 
 /// What a field is to be.
@@ -31,17 +33,8 @@ pub(crate) enum Form {
     HolidayDate,
 }
 
-/// The days of a case, as the second record states them: the last closing day and the last house day.
-#[derive(Clone, Copy)]
-pub(crate) struct Spans {
-    pub(crate) horizon: usize,
-    pub(crate) last: usize,
-}
-
 /// How many fields a record of this kind has after the first.
-fn field_count(spans: Spans, row: &Fields, kind: RecordKind) -> usize
-    requires horizon { spans.horizon < 2 ^ 63 }
-    requires last { spans.last < 2 ^ 63 }
+pub(crate) fn field_count(spans: Spans, row: &Fields, kind: RecordKind) -> usize
     ensures { result ≡ length (forms spans.horizon spans.last row.now kind) }
 {
     match kind {
@@ -81,9 +74,8 @@ fn instrument_form(place: usize) -> Form
 }
 
 /// What the field at a place after the kind is to be.
-fn form_at(spans: Spans, row: &Fields, kind: RecordKind, place: usize) -> Form
-    requires last { spans.last < 2 ^ 63 }
-    requires place { place < length (forms spans.horizon spans.last row.now kind) }
+pub(crate) fn form_at(spans: Spans, row: &Fields, kind: RecordKind, place: usize) -> Form
+    requires { place < length (forms spans.horizon spans.last row.now kind) }
     ensures { result ≡ get_or (forms spans.horizon spans.last row.now kind) place Version }
 {
     match (kind, place) {
@@ -125,7 +117,7 @@ fn date_in_range(word: &[u8], last: Date) -> Result<bool, RecordFault>
 }
 
 /// Whether a field is in its range, or the fault of a field that has not its form.
-fn field_in_range(form: Form, word: &[u8]) -> Result<bool, RecordFault>
+pub(crate) fn field_in_range(form: Form, word: &[u8]) -> Result<bool, RecordFault>
     ensures form { IfOk result (λ _. form_fault form word.now ≡ None) }
     ensures range { IfOk result (λ within. range_fault form word.now ≡ fault_unless within OutOfRange) }
     ensures fault { IfErr result (λ fault. form_fault form word.now ≡ Some fault) }
@@ -143,73 +135,5 @@ fn field_in_range(form: Form, word: &[u8]) -> Result<bool, RecordFault>
         },
         Form::StartDate => date_in_range(word, last_start()),
         Form::HolidayDate => date_in_range(word, last_holiday()),
-    }
-}
-
-/// The fault where the test fails.
-pub(crate) fn fault_unless(passes: bool, fault: RecordFault) -> Option<RecordFault>
-    ensures { result ≡ fault_unless passes fault }
-{
-    if passes { None } else { Some(fault) }
-}
-
-/// Whether the fields of a record are all in their ranges, or, where fields have not their forms, the fault of the first.
-fn fields_in_range(spans: Spans, row: &Fields, kind: RecordKind) -> Result<bool, RecordFault>
-    requires last { spans.last < 2 ^ 63 }
-    requires count { length row.now ≡ suc (length (forms spans.horizon spans.last row.now kind)) }
-    ensures form { IfOk result (λ _. first_of (by_form form_fault (forms spans.horizon spans.last row.now kind) (drop 1 row.now)) ≡ None) }
-    ensures range { IfOk result (λ within. first_of (by_form range_fault (forms spans.horizon spans.last row.now kind) (drop 1 row.now)) ≡ fault_unless within OutOfRange) }
-    ensures fault { IfErr result (λ fault. first_of (by_form form_fault (forms spans.horizon spans.last row.now kind) (drop 1 row.now)) ≡ Some fault) }
-{
-    let mut in_range = true;
-    for i in 1..row.len() {
-        in_range &= field_in_range(form_at(spans, row, kind, i - 1), word(row, i))?;
-    }
-    Ok(in_range)
-}
-
-/// The fault of a record that does not stand in its place: `core` is the first, `house` the second.
-fn order_fault(place: usize, kind: RecordKind) -> Option<RecordFault>
-    ensures { result ≡ order_step place kind }
-{
-    let in_order = match place {
-        0 => true,
-        1 => kind == RecordKind::House,
-        _ => kind != RecordKind::Core && kind != RecordKind::House,
-    };
-    fault_unless(in_order, RecordFault::OutOfOrder)
-}
-
-/// The fault of a position of 0.
-fn zero_fault(row: &Fields, kind: RecordKind) -> Option<RecordFault>
-    ensures { result ≡ zero_step row.now kind }
-{
-    fault_unless(
-        kind != RecordKind::Position || number_in(row, 2) != 0,
-        RecordFault::OutOfRange,
-    )
-}
-
-/// The fault of a record of this kind by itself, where so many records came before.
-pub(crate) fn own_fault(
-    place: usize,
-    spans: Spans,
-    row: &Fields,
-    kind: RecordKind,
-) -> Option<RecordFault>
-    requires horizon { spans.horizon < 2 ^ 63 }
-    requires last { spans.last < 2 ^ 63 }
-    ensures { result ≡ own_fault place (forms spans.horizon spans.last row.now kind) row.now kind }
-{
-    if let Some(fault) = order_fault(place, kind) {
-        return Some(fault);
-    }
-    if row.len() != field_count(spans, row, kind) + 1 {
-        return Some(RecordFault::FieldCount);
-    }
-    match fields_in_range(spans, row, kind) {
-        Err(fault) => Some(fault),
-        Ok(false) => Some(RecordFault::OutOfRange),
-        Ok(true) => zero_fault(row, kind),
     }
 }

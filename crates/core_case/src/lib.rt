@@ -13,6 +13,8 @@ mod read;
 #[cfg(test)]
 mod read_tests;
 mod register;
+mod shape;
+mod spans;
 mod state;
 
 pub use case::Case;

@@ -11,9 +11,9 @@ ghost use Rattle.core_case.specs.Stated.{case_of_bytes};
 
 use crate::case::Case;
 use crate::faults::RecordFault;
-use crate::forms::own_fault;
 use crate::kinds::{RecordKind, is_kind, kind_of};
 use crate::register::Register;
+use crate::shape::own_fault;
 use crate::state::state_book;
 use core_rows::{Fields, records};
 use std::alloc::{AllocError, Global};

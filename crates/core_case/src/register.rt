@@ -4,10 +4,10 @@ ghost use Rattle.core_case.specs.Kinds.{most_records};
 ghost use Rattle.core_case.specs.Faults.{group_of, key_of};
 
 use crate::faults::RecordFault;
-use crate::fields::{natural_in, same, word};
-use crate::forms::Spans;
+use crate::fields::natural_in;
 use crate::kinds::{RecordKind, is_kind};
-use core_rows::Fields;
+use crate::spans::Spans;
+use core_rows::{Fields, same};
 use indexmap::IndexMap;
 use std::alloc::{AllocError, Global};
 use std::marker::Model;
@@ -61,12 +61,12 @@ fn key_of<'a>(kind: RecordKind, row: &'a Fields) -> Key<'a>
         },
         RecordKind::Holiday | RecordKind::Member | RecordKind::Path => Key {
             kind,
-            first: word(row, 1),
-            second: word(row, 2),
+            first: row.word(1),
+            second: row.word(2),
         },
         _ => Key {
             kind,
-            first: word(row, 1),
+            first: row.word(1),
             second: b"",
         },
     }
@@ -78,7 +78,7 @@ fn group_of<'a>(kind: RecordKind, row: &'a Fields) -> Group<'a>
     ensures market { result.market.now ≡ group_of kind row.now }
 {
     let market = if kind == RecordKind::Holiday {
-        word(row, 1)
+        row.word(1)
     } else {
         b""
     };
@@ -89,8 +89,9 @@ impl<'a> Register<'a> {
     ghost use Rattle.std.specs.Prelude.{◌≡◌, [], ◌∷◌, ◌++◌, true, nat_lt, length, map, option_map, is_some, IfOk};
     ghost use Rattle.std.specs.List.{list_all};
     ghost use Rattle.core_case.specs.Kinds.{is_kind, references};
-    ghost use Rattle.core_case.specs.Faults.{filed, count_in, group_of, has_ended, is_declared, name_step, first_of, names_future, repeats, has_room, of_kind, has_limit, has_path, is_complete, book_fault, horizon_in, last_in};
-    ghost use Rattle.std.specs.Prelude.{◌≤◌, ◌<◌, ◌^◌};
+    ghost use Rattle.core_case.specs.Faults.{filed, count_in, group_of, has_ended, is_declared, name_step, names_future, repeats, has_room, of_kind, has_limit, has_path, is_complete, book_fault, horizon_in, last_in};
+    ghost use Rattle.core_rows.specs.Steps.{first_of};
+    ghost use Rattle.std.specs.Prelude.{◌≤◌, ◌<◌};
     ghost use Rattle.core_sums.specs.Places.{row_at};
     ghost use Rattle.core_case.specs.declared.kinds.RecordKind.TheVariants.{Instrument, Scenario};
 
@@ -148,8 +149,6 @@ impl<'a> Register<'a> {
     pub(crate) fn spans(&self) -> Spans
         ensures horizon { result.horizon ≡ horizon_in self.now }
         ensures last { result.last ≡ last_in self.now }
-        ensures horizon_bound { result.horizon < 2 ^ 63 }
-        ensures last_bound { result.last < 2 ^ 63 }
     {
         match self.rows.get(1) {
             Some(house) => Spans {
@@ -216,7 +215,7 @@ impl<'a> Register<'a> {
     fn undeclared(&self, row: &Fields, place: usize, kind: RecordKind) -> Option<RecordFault>
         ensures { result ≡ name_step self.now row.now (place, kind) }
     {
-        if self.is_declared(kind, word(row, place)) {
+        if self.is_declared(kind, row.word(place)) {
             None
         } else {
             Some(RecordFault::Undeclared)
@@ -224,7 +223,7 @@ impl<'a> Register<'a> {
     }
 
     /// The fault of the names that a record refers to.
-    #[tactic(auto, unfolding(crate::specs::Faults::first_of))]
+    #[tactic(auto, unfolding(core_rows::specs::Steps::first_of))]
     fn names_fault(&self, row: &Fields, kind: RecordKind) -> Option<RecordFault>
         ensures { result ≡ first_of (map (name_step self.now row.now) (references kind)) }
     {
@@ -249,7 +248,7 @@ impl<'a> Register<'a> {
         ensures { result ≡ names_future self.now name.now }
     {
         match self.find(RecordKind::Instrument, name, b"") {
-            Some(instrument) => same(word(instrument, 2), b"future"),
+            Some(instrument) => same(instrument.word(2), b"future"),
             None => false,
         }
     }
@@ -284,7 +283,7 @@ impl<'a> Register<'a> {
     {
         for row in &self.rows {
             if is_kind(RecordKind::Instrument, row)
-                && !self.has(RecordKind::Path, word(scenario, 1), word(row, 1))
+                && !self.has(RecordKind::Path, scenario.word(1), row.word(1))
             {
                 return false;
             }
@@ -310,7 +309,7 @@ impl<'a> Register<'a> {
     {
         for row in &self.rows {
             if is_kind(RecordKind::Instrument, row)
-                && !self.has(RecordKind::Limit, word(row, 1), b"")
+                && !self.has(RecordKind::Limit, row.word(1), b"")
             {
                 return false;
             }
@@ -338,14 +337,14 @@ impl<'a> Register<'a> {
     }
 
     /// The fault of a record of this kind among those before it.
-    #[tactic(auto, unfolding(crate::specs::Faults::first_of))]
+    #[tactic(auto, unfolding(core_rows::specs::Steps::first_of))]
     pub(crate) fn book_fault(&self, row: &Fields, kind: RecordKind) -> Option<RecordFault>
         ensures { result ≡ book_fault self.now row.now kind }
     {
         if let Some(fault) = self.names_fault(row, kind) {
             return Some(fault);
         }
-        if kind == RecordKind::Collateral && self.names_future(word(row, 1)) {
+        if kind == RecordKind::Collateral && self.names_future(row.word(1)) {
             return Some(RecordFault::CollateralOfFuture);
         }
         if self.repeats(row, kind) {

@@ -6,17 +6,17 @@ ghost use Rattle.core_rows.specs.Fields.{IsName};
 ghost use Rattle.core_sums.specs.Places.{below};
 ghost use Rattle.core_case.specs.Inside.{book_view};
 ghost use Rattle.core_case.specs.Kept.{IsInstrument};
-ghost use Rattle.core_case.specs.Kinds.{field};
+ghost use Rattle.core_rows.specs.Names.{field, place_of};
 ghost use Rattle.core_case.specs.Faults.{house_name, last_in, of_kind};
-ghost use Rattle.core_case.specs.Stated.{case_of, cash_among, declared_names, holidays_among, instrument_of_record, limits_of, line_among, line_records, market_names, member_among, names_in, numbers_from, place_of, pool_of_record, prices_of};
+ghost use Rattle.core_case.specs.Stated.{case_of, cash_among, declared_names, holidays_among, instrument_of_record, limits_of, line_among, line_records, market_names, member_among, names_in, numbers_from, pool_of_record, prices_of};
 ghost use Rattle.core_case.specs.Whole.{IsWhole};
 
 use crate::book::Book;
-use crate::fields::{day_in, natural_in, number_in, same, word};
+use crate::fields::{day_in, natural_in, number_in};
 use crate::kinds::{RecordKind, is_kind};
 use crate::parts::{Instr, Kind, Line, Member, Pool, Side};
 use crate::register::Register;
-use core_rows::{Fields, Name, name_of};
+use core_rows::{Fields, Name, name_of, same};
 use indexmap::IndexSet;
 use jiff::civil::Date;
 use std::alloc::{AllocError, Global};
@@ -66,7 +66,7 @@ fn numbered<'a>(
     ensures { IfOk result (λ numbers. map (λ k. k.now) numbers.names.keys ≡ map (λ k. k.now) names.entry.keys ++ names_in (map (λ r. r.now) rows.now)) }
 {
     for row in rows {
-        names.insert(word(row, 1))?;
+        names.insert(row.word(1))?;
     }
     Ok(NameNumbers { names })
 }
@@ -110,7 +110,7 @@ fn limits_of(
 ) -> Result<Vec<i64>, AllocError>
     ensures { IfOk result (λ v. v.items ≡ limits_of register.now (field instrument.now 1)) }
 {
-    match register.find(RecordKind::Limit, word(instrument, 1), b"") {
+    match register.find(RecordKind::Limit, instrument.word(1), b"") {
         Some(row) => numbers_from(alloc, row, 2),
         None => Ok(Vec::new(alloc)),
     }
@@ -125,7 +125,7 @@ fn prices_of(
 ) -> Result<Vec<i64>, AllocError>
     ensures { IfOk result (λ v. v.items ≡ prices_of register.now (field scenario.now 1) (field instrument.now 1)) }
 {
-    match register.find(RecordKind::Path, word(scenario, 1), word(instrument, 1)) {
+    match register.find(RecordKind::Path, scenario.word(1), instrument.word(1)) {
         Some(row) => numbers_from(alloc, row, 3),
         None => Ok(Vec::new(alloc)),
     }
@@ -137,7 +137,7 @@ fn holidays_of(alloc: Global, holidays: &[&Fields], market: &[u8]) -> Result<Vec
 {
     let mut found = Vec::new(alloc);
     for row in holidays {
-        if same(word(row, 1), market) {
+        if same(row.word(1), market) {
             found.push(day_in(row, 2))?;
         }
     }
@@ -155,7 +155,7 @@ fn holidays(
     let mut all = Vec::new(alloc);
     all.push(holidays_of(alloc, holidays, b"HOUSE")?)?;
     for market in markets {
-        all.push(holidays_of(alloc, holidays, word(market, 1))?)?;
+        all.push(holidays_of(alloc, holidays, market.word(1))?)?;
     }
     Ok(all)
 }
@@ -165,7 +165,7 @@ fn name_in(row: &Fields, i: usize) -> Name
     requires { IsName (field row.now i) }
     ensures { result ≡ field row.now i }
 {
-    name_of(word(row, i)).unwrap()
+    name_of(row.word(i)).unwrap()
 }
 
 /// The instrument that a record states.
@@ -175,7 +175,7 @@ fn instrument(row: &Fields) -> Instr
 {
     Instr {
         name: name_in(row, 1),
-        kind: if same(word(row, 2), b"future") {
+        kind: if same(row.word(2), b"future") {
             Kind::Future
         } else {
             Kind::Security
@@ -204,7 +204,7 @@ fn markets(alloc: Global, rows: &[&Fields], markets: &NameNumbers) -> Result<Vec
 {
     let mut places = Vec::with_capacity(alloc, rows.len())?;
     for row in rows {
-        places.push(place_of(markets, word(row, 3)))?;
+        places.push(place_of(markets, row.word(3)))?;
     }
     Ok(places)
 }
@@ -284,8 +284,8 @@ fn member(row: &Fields, pools: &NameNumbers, instruments: &NameNumbers) -> Membe
     ensures { result ≡ member_among (map (λ k. k.now) pools.now.names.keys) (map (λ k. k.now) instruments.now.names.keys) row.now }
 {
     Member {
-        pool: place_of(pools, word(row, 1)),
-        instrument: place_of(instruments, word(row, 2)),
+        pool: place_of(pools, row.word(1)),
+        instrument: place_of(instruments, row.word(2)),
         weight: number_in(row, 3),
     }
 }
@@ -324,7 +324,7 @@ fn line(row: &Fields, instruments: &NameNumbers) -> Line
 {
     let number = number_in(row, 2);
     Line {
-        instrument: place_of(instruments, word(row, 1)),
+        instrument: place_of(instruments, row.word(1)),
         side: if is_kind(RecordKind::Position, row) {
             Side::Position
         } else {

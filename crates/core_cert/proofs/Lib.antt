@@ -1,31 +1,28 @@
 mod Rows
-pub mod Plainly
-pub mod Printed
-pub mod Rising
-pub mod Joined
-pub mod Size
+mod Plainly
+mod Printed
+mod Rising
+mod Joined
+mod Size
 pub mod CertSize
-pub mod FormsFirst
-pub mod FormsWalk
-pub mod NamePlaces
-pub mod NamesApart
-pub mod RecordFaults
-pub mod ReadingCount
-pub mod NumbersStated
-pub mod ReadingRows
+mod NamePlaces
+mod NamesApart
+mod RecordFaults
+mod NumbersStated
+mod ReadingRows
 mod RoundTripRows
-pub mod RoundTripOrder
-pub mod RoundTripSound
-pub mod PlainReading
-pub mod RoundTripBlocks
-pub mod RoundTripFields
-pub mod RoundTripNames
-pub mod RoundTripRecords
-pub mod RoundTripSections
-pub mod RoundTripRest
-pub mod RoundTripWords
-pub mod RoundTripWeights
-pub mod RoundTripStated
-pub mod RoundTripRefusing
-pub mod RoundTripClosing
+mod RoundTripOrder
+mod RoundTripSound
+mod PlainReading
+mod RoundTripBlocks
+mod RoundTripFields
+mod RoundTripNames
+mod RoundTripRecords
+mod RoundTripSections
+mod RoundTripRest
+mod RoundTripWords
+mod RoundTripWeights
+mod RoundTripStated
+mod RoundTripRefusing
+mod RoundTripClosing
 pub mod RoundTrip

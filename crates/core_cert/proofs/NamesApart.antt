@@ -9,6 +9,7 @@ use Rattle.std.proofs.lemmas.Bool.{false_from_ne_true, and_parts, cases_lt}
 use Rattle.indexmap.specs.IndexSet.{insert_key}
 use Rattle.core_sums.specs.Places.{below}
 use Rattle.core_sums.proofs.Lists.{length-below, get_or-below}
+use Rattle.core_rows.proofs.NamesApart.{inserted}
 use Rattle.core_case.specs.View.{CaseView, instrument, line, instrument_of, no_line, no_instrument}
 use Rattle.core_case.specs.Kept.{IsCase}
 use Rattle.core_case.specs.declared.parts.Side.{Side}
@@ -18,7 +19,8 @@ use Rattle.core_cert.specs.Written.{side_word}
 use Rattle.core_cert.specs.Numbered.{key_words, line_words}
 use Rattle.core_cert.specs.Faults.{instrument_names}
 use Rattle.core_cert.specs.declared.names.LineKey.{LineKey}
-use Rattle.core_cert.proofs.NamePlaces.{list_any-map, same_words}
+use Rattle.core_cert.proofs.NamePlaces.{same_words}
+use Rattle.core_rows.proofs.NamePlaces.{list_any-map}
 
 -- one more of a list that is read by index
 pub one-more-read : {A B : Type 0} (f : A → B) (xs : List A) (z : A) (i : ℕ) (now next : List B) (x : B) → i < length xs → now ≡ take i (map f xs)
@@ -36,45 +38,15 @@ names-apart f xs z apart i j d less within =
     let second : get_or (map f xs) j d ≡ f (get_or xs j z) = get_or-map f xs j z d below in
     λ same. apart i j z less below (sym first ∙ same ∙ second)
 
--- names that differ are not equal by their bytes
-differ : (a b : List ℕ) → a ≢ b → bytes_eq b a ≡ false
-differ a b apart = false_from_ne_true (bytes_eq b a) (λ e. apart (sym ((bytes_eq-Decides b a).0 e)))
-
--- a name is none of those before it
-is_new : (names : List (List ℕ)) (m : ℕ) (name : List ℕ) → AllPairs (λ x y. x ≢ y) names → m < length names → name ≡ get_or names m name
-    → list_any (bytes_eq name) (take m names) ≡ false
-is_new names m name apart within e = list_any_none (bytes_eq name) (take m names) (λ k d h.
-    let below : k < m = omega (arith, h, length-take-le m names (omega arith)) in
-    let here : get_or (take m names) k d ≡ get_or names k d = get_or-take m names k d below in
-    let other : get_or names m d ≡ name = sym (get_or_read names m name within e d) in
-    differ (get_or (take m names) k d) name (λ same. apart k m d below within (sym here ∙ same ∙ sym other)))
-
--- the keys after one more that is none of them
-inserted : {K A : Type 0} (seen : K → A) (same : K → K → Bool) (keys new : List K) (key : K) (before : List A) → list_any (same key) keys ≡ false
-    → new ≡ insert_key same keys key → map seen keys ≡ before → map seen new ≡ before ++ (seen key ∷ [])
-inserted seen same keys new key before absent is are =
-    ap (map seen) (is ∙ ap (λ b. if b then keys else keys ++ key ∷ []) absent) ∙ map_push seen keys key ∙ ap (λ xs. xs ++ seen key ∷ []) are
-
--- the keys after one more name
-pub one_more_name : (names : List (List ℕ)) (m : ℕ) (keys new : List (Bor (List ℕ))) (key : Bor (List ℕ))
-    → AllPairs (λ x y. x ≢ y) names → m < length names → key.now ≡ get_or names m key.now
-    → map (λ k. k.now) keys ≡ take m names → new ≡ insert_key (λ a b. bytes_eq a.now b.now) keys key
-    → map (λ k. k.now) new ≡ take (m + 1) names
-one_more_name names m keys new key apart within e before is =
-    let absent : list_any (λ k. bytes_eq key.now k.now) keys ≡ false =
-    sym (list_any-map (bytes_eq key.now) (λ k. k.now) keys) ∙ ap (list_any (bytes_eq key.now)) before ∙ is_new names m key.now apart within e in
-    inserted (λ k. k.now) (λ a b. bytes_eq a.now b.now) keys new key (take m names) absent is before
-    ∙ ap (λ x. take m names ++ x ∷ []) e ∙ sym (take_more names m key.now within)
-
 -- the words of the sides tell them apart
-same-side : (s t : Side) → side_word s ≡ side_word t → s ≡ t
+pub same-side : (s t : Side) → side_word s ≡ side_word t → s ≡ t
 same-side Position Position e = refl
 same-side Position Collateral e = cc
 same-side Collateral Position e = cc
 same-side Collateral Collateral e = refl
 
 -- the names of the instruments tell them apart
-same-instrument : (c : CaseView) (i j : ℕ) → IsCase c → i < length c.instruments → j < length c.instruments → (instrument c i).name ≡ (instrument c j).name → i ≡ j
+pub same-instrument : (c : CaseView) (i j : ℕ) → IsCase c → i < length c.instruments → j < length c.instruments → (instrument c i).name ≡ (instrument c j).name → i ≡ j
 same-instrument c i j kept under below e = elim (cases_lt i j) [
   | inl less ↦ absurd (kept.instruments.2 i j no_instrument less below e)
   | inr high ↦ elim (cases_lt j i) [

@@ -8,7 +8,7 @@ use Rattle.std.proofs.lemmas.List.{ext_get_or, get_or-set_other, get_or-set_same
 use Rattle.core_sums.specs.Places.{below}
 use Rattle.core_sums.specs.Widths.{most}
 use Rattle.core_sums.proofs.Lists.{length-below, get_or-below}
-use Rattle.core_rows.specs.Names.{Record}
+use Rattle.core_rows.specs.Names.{Record, field}
 use Rattle.core_rows.specs.Fields.{at_most, positive}
 use Rattle.core_case.specs.View.{CaseView}
 use Rattle.core_model.specs.Fits.{AreKept, Fits, IsKept}
@@ -16,7 +16,7 @@ use Rattle.core_model.specs.Closing.{line_count}
 use Rattle.core_model.specs.declared.cert.Calendar.{Calendar}
 use Rattle.core_model.specs.declared.cert.Weights as weights
 use Rattle.core_model.specs.declared.cert.Cert.TheVariants as certs
-use Rattle.core_cert.specs.Kinds.{field, is_kind}
+use Rattle.core_cert.specs.Kinds.{is_kind}
 use Rattle.core_cert.specs.Faults.{number_in, place_in, is_refusing}
 use Rattle.core_cert.specs.Stated.{last_number, number_at, numbers_of, calendar_stated, weights_stated, cert_of}
 use Rattle.core_cert.specs.declared.kinds.RecordKind.{RecordKind}

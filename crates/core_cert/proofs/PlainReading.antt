@@ -3,11 +3,12 @@ use Rattle.std.proofs.Common.{◌≡◌, sym, ◌∙◌, refl, ap, subst, ℕ, s
 use Rattle.std.specs.Prelude.{◌&&◌, ◌||◌, ◌==◌, is_some, if◌then◌else◌}
 use Rattle.std.specs.List.{All, find, list_any}
 use Rattle.std.specs.Option.{unwrap_or}
+use Rattle.std.proofs.lemmas.Bool.{and_parts}
 use Rattle.std.proofs.lemmas.Slice.Eq.{bytes_eq-Decides}
 use Rattle.core_sums.specs.Places.{below}
 use Rattle.core_sums.proofs.Lists.{get_or-below, length-below}
 use Rattle.std.proofs.lemmas.List.{length-map}
-use Rattle.core_rows.specs.Names.{Record}
+use Rattle.core_rows.specs.Names.{Record, field}
 use Rattle.core_case.specs.View.{CaseView}
 use Rattle.core_model.specs.declared.cert.Cert as certs
 use Rattle.core_model.specs.declared.cert.Cert.TheVariants as certs_of
@@ -15,12 +16,14 @@ use Rattle.core_cert.specs.declared.kinds.RecordKind.{RecordKind}
 use Rattle.core_cert.specs.declared.kinds.RecordKind.TheVariants.{Cert, Closes, Cannot, Amount, Loss, Margin, Weights, Scenario, Limit, Pool, Full, End}
 use Rattle.core_cert.specs.declared.faults.RecordFault.{RecordFault}
 use Rattle.core_cert.specs.declared.faults.RecordFault.TheVariants.{FirstNotCert, UnknownKind, OutOfOrder}
-use Rattle.core_cert.specs.Kinds.{field, followers, forms, is_kind, kind_of, word_of}
-use Rattle.core_cert.specs.Faults.{Faulty, case_fault, end_before, fault_of, fault_unless, fields_fault, first_fault, first_fault_after, first_of, is_follower, is_refusing, kind_step, last_record, later_fault, order_step, place_in}
+use Rattle.core_cert.specs.Kinds.{followers, forms, is_kind, kind_of, word_of}
+use Rattle.core_cert.specs.Faults.{Faulty, case_fault, end_before, fault_of, fields_fault, first_fault, first_fault_after, is_follower, is_refusing, kind_step, last_record, later_fault, order_step, place_in}
+use Rattle.core_rows.specs.Steps.{fault_unless, first_of}
 use Rattle.core_cert.specs.Stated.{calendar_stated, cert_of, cert_of_records, cert_unless, last_number, number_at, numbers_of, weights_stated}
 use Rattle.core_cert.specs.Written.{IsPlainlyRefusing}
+use Rattle.core_rows.proofs.FirstStep.{holds-from_none}
 use Rattle.core_cert.proofs.RoundTripOrder.{HasKind, kind-is, kind_of-word, same_kind}
-use Rattle.core_cert.proofs.RoundTripSound.{last-put}
+use Rattle.core_cert.proofs.RoundTripSound.{after_fault, last-put}
 
 -- the kinds that may stand in a certificate that refuses, from the second record on
 abbrev is_late : RecordKind → Bool
@@ -68,26 +71,18 @@ followers-late Scenario h = cc
 has-kind : (kind : RecordKind) (r : Record) → is_kind kind r ≡ true → HasKind kind r
 has-kind kind r h = (bytes_eq-Decides (field r 0) (word_of kind)).0 h
 
-both : (a b : Bool) → (a && b) ≡ true → (a ≡ true) × (b ≡ true)
-both true b h = (refl, h)
-both false b h = cc
-
 one-late : (r : Record) (xs : List RecordKind) → are_late xs ≡ true → list_any (λ x. is_kind x r) xs ≡ true → IsLate r
 one-late r [] late h = cc
 one-late r (x ∷ xs) late h = split (λ any. one-late r xs all.1 any) (is_kind x r) refl h
   where
     all : (is_late x ≡ true) × (are_late xs ≡ true)
-    all = both (is_late x) (are_late xs) late
+    all = and_parts (is_late x) (are_late xs) late
 
     split : (list_any (λ y. is_kind y r) xs ≡ true → IsLate r) → (b : Bool) → is_kind x r ≡ b → (b || list_any (λ y. is_kind y r) xs) ≡ true → IsLate r
     split later true e any = record { kind = x; late = all.0; is = has-kind x r e }
     split later false e any = later any
 
--- a step that finds no fault
-passed : (test : Bool) (fault : RecordFault) → fault_unless test fault ≡ None → test ≡ true
-passed true fault e = refl
-passed false fault e = cc
-
+-- steps that find no fault
 three-none : (x y z : Option RecordFault) → first_of (x ∷ y ∷ z ∷ []) ≡ None → (x ≡ None) × (y ≡ None) × (z ≡ None)
 unfolding first_of
 three-none None None None e = (refl, refl, refl)
@@ -107,7 +102,7 @@ in-order c x xs r none = split (kind_of r) steps.1 steps.2
         → is_follower (is_refusing (x ∷ xs)) (kind_of (last_record (x ∷ xs))) r ≡ true
     split None known later = cc
     split (Some kind) known later =
-        passed (is_follower (is_refusing (x ∷ xs)) (kind_of (last_record (x ∷ xs))) r) OutOfOrder
+        holds-from_none (is_follower (is_refusing (x ∷ xs)) (kind_of (last_record (x ∷ xs))) r) OutOfOrder
         (three-none (order_step (x ∷ xs) r) (fields_fault (forms c.horizon c.last kind) r) (case_fault c (x ∷ xs) kind r) later).0
 
 late-next : (c : CaseView) (x : Record) (xs : List Record) (r : Record) → is_refusing (x ∷ xs) ≡ true → IsLate (last_record (x ∷ xs)) → fault_of c (x ∷ xs) r ≡ None → IsLate r
@@ -116,10 +111,6 @@ late-next c x xs r refuses last none = one-late r (followers true last.kind) (fo
     ∙ in-order c x xs r none)
 
 -- where no record has a fault, the first of those left has none, nor have those after it
-abbrev after_fault : CaseView → List Record → Record → List Record → Option RecordFault → Option Faulty
-after_fault c earlier r rs (Some fault) = Some (suc (length earlier), fault)
-after_fault c earlier r rs None = first_fault_after c (earlier ++ (r ∷ [])) rs
-
 none-after : (c : CaseView) (earlier : List Record) (r : Record) (rs : List Record) (o : Option RecordFault) → after_fault c earlier r rs o ≡ None
     → (o ≡ None) × (first_fault_after c (earlier ++ (r ∷ [])) rs ≡ None)
 none-after c earlier r rs None e = (refl, e)
@@ -145,7 +136,7 @@ none-left c x y xs (r ∷ rs) refuses last sound =
 
 first-is : (c : CaseView) (x : Record) → fault_of c [] x ≡ None → is_kind Scenario x ≡ false
 first-is c x none = kind-is Scenario Cert x (has-kind Cert x
-    (passed (is_kind Cert x) FirstNotCert (three-none (end_before []) (kind_step 0 x) (later_fault c [] x (kind_of x)) none).1))
+    (holds-from_none (is_kind Cert x) FirstNotCert (three-none (end_before []) (kind_step 0 x) (later_fault c [] x (kind_of x)) none).1))
 
 no-scenarios : (c : CaseView) (rs : List Record) → first_fault c rs ≡ None → is_refusing rs ≡ true → NoScenario rs
 no-scenarios c [] sound refuses = tt

@@ -3,6 +3,7 @@ use Rattle.std.proofs.Common.{◌≡◌, sym, ◌∙◌, refl, ap, subst, ℕ, s
 use Rattle.std.specs.Result.{IfErr, IsErrAnd}
 use Rattle.std.proofs.lemmas.List.{take_more, take_all, drop_all, length-take-le}
 use Rattle.core_rows.specs.Names.{Record}
+use Rattle.core_rows.proofs.OneByOne.{left-is}
 use Rattle.core_rows.specs.Fields.{records}
 use Rattle.core_case.specs.View.{CaseView}
 use Rattle.core_model.specs.Fits.{Fits}
@@ -18,7 +19,6 @@ use Rattle.core_cert.specs.declared.faults.RecordFault.TheVariants.{EndMissing}
 use Rattle.core_cert.specs.declared.read.CertFault.{CertFault}
 use Rattle.core_cert.specs.declared.read.CertFault.TheVariants.{Bad, NoMemory}
 use Rattle.core_cert.proofs.NumbersStated.{cert-fits}
-use Rattle.core_cert.proofs.ReadingCount.{records-count}
 
 -- before the first record
 pub at-first : (c : CaseView) (rows : List Record) → first_fault c rows ≡ first_fault_after c (take 0 rows) (drop 0 rows)
@@ -42,12 +42,6 @@ sound-past c earlier rs r e =
 none-left : (c : CaseView) (earlier : List Record) → first_fault_after c earlier [] ≡ missing_end earlier
 unfolding first_fault_after
 none-left c earlier = refl
-
--- the records left are the one at hand and those after it
-left-is : (rows : List Record) (i : ℕ) (row : Record) → i < length rows → row ≡ get_or rows i row → drop i rows ≡ row ∷ drop (i + 1) rows
-left-is rows i row within at =
-    let next : suc i ≡ i + 1 = omega arith in
-    drop-cons rows i row within ∙ ap (λ r. r ∷ drop (suc i) rows) (sym at) ∙ ap (λ n. row ∷ drop n rows) next
 
 -- a faulty record at hand is the first of all
 pub row-faulty : (c : CaseView) (rows : List Record) (i : ℕ) (row : Record) (fault : RecordFault) → i < length rows → row ≡ get_or rows i row
@@ -114,12 +108,3 @@ pub bytes-refused : (c : CaseView) (fault : CertFault) (bytes : List ℕ) (rows 
 unfolding cert_of_bytes
 bytes-refused c (Bad row code) bytes rows are is = ap (cert_of_records c) (sym are) ∙ is
 bytes-refused c NoMemory bytes rows are is = tt
-
--- there are not too many records to number
-pub few-records : (bytes : List ℕ) (rows : List Record) → length bytes ≤ 4194304 → rows ≡ records bytes → length rows < 2147483648
-few-records bytes rows short are = omega (arith, short, ap length are, records-count bytes)
-
--- an error that is passed on
-pub error-same : {A E : Type 0} (P : E → Type 0) (answer : Result A E) (e : E) → IsErrAnd answer (λ x. x ≡ e) → P e → IfErr answer P
-error-same P (Ok a) e is here = tt
-error-same P (Err x) e is here = subst P (sym is) here

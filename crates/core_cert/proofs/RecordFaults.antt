@@ -3,12 +3,13 @@ use Rattle.std.proofs.Common.{◌≡◌, sym, ◌∙◌, ap, subst, ℕ, List, [
 use Rattle.core_rows.specs.Names.{Record}
 use Rattle.core_case.specs.View.{CaseView}
 use Rattle.core_cert.specs.Kinds.{is_kind, kind_of, forms}
-use Rattle.core_cert.specs.Faults.{fault_unless, last_record, end_before, kind_step, later_fault, fault_of, fields_fault}
+use Rattle.core_cert.specs.Faults.{last_record, end_before, kind_step, later_fault, fault_of, fields_fault}
+use Rattle.core_rows.specs.Steps.{fault_unless}
 use Rattle.core_cert.specs.declared.kinds.RecordKind.{RecordKind}
 use Rattle.core_cert.specs.declared.kinds.RecordKind.TheVariants.{End}
 use Rattle.core_cert.specs.declared.faults.RecordFault.{RecordFault}
 use Rattle.core_cert.specs.declared.faults.RecordFault.TheVariants.{AfterEnd}
-use Rattle.core_cert.proofs.FormsFirst.{first_of-fails, first_of-passes, first_of-last}
+use Rattle.core_rows.proofs.FirstStep.{first_of-fails, first_of-passes, first_of-last}
 
 -- the fault of the fields, from the days of the case
 pub fields-of : (h l horizon last : ℕ) (kind : RecordKind) (r : Record) → h ≡ horizon → l ≡ last

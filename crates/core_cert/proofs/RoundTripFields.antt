@@ -16,7 +16,8 @@ use Rattle.core_cert.specs.declared.forms.Form.{Form}
 use Rattle.core_cert.specs.declared.forms.Form.TheVariants.{Name, SideWord, Day, Numerator, NotZero}
 use Rattle.core_cert.specs.declared.faults.RecordFault.TheVariants.{FieldCount, NotAName, NotANumber, OutOfRange}
 use Rattle.core_cert.specs.Written.{side_word}
-use Rattle.core_cert.specs.Faults.{by_form, count_step, fault_unless, fields_fault, first_of, form_fault, number_in, range_fault}
+use Rattle.core_cert.specs.Faults.{fields_fault, form_fault, number_in, range_fault}
+use Rattle.core_rows.specs.Steps.{by_form, count_step, fault_unless, first_of}
 use Rattle.core_cert.proofs.RoundTripSound.{first_of-three, no_fault}
 
 -- a word has a form, and words have forms
@@ -52,7 +53,7 @@ fit-ranges (form ∷ fs) (word ∷ words) fit = ap (λ x. option_or x (first_of 
 -- so the fields have no fault
 pub fit-fields : (fs : List Form) (word : List ℕ) (words : Record) → AreFit fs words → fields_fault fs (word ∷ words) ≡ None
 fit-fields fs word words fit =
-    first_of-three (count_step fs (word ∷ words)) (first_of (by_form form_fault fs words)) (first_of (by_form range_fault fs words))
+    first_of-three (count_step FieldCount fs (word ∷ words)) (first_of (by_form form_fault fs words)) (first_of (by_form range_fault fs words))
     (no_fault (length (word ∷ words) == suc (length fs)) FieldCount (eq-eqb (length (word ∷ words)) (suc (length fs)) (ap suc (fit-size fs words fit))))
     (fit-forms fs words fit) (fit-ranges fs words fit)
 

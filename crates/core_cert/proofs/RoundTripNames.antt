@@ -9,14 +9,15 @@ use Rattle.std.proofs.lemmas.List.Sums.{position_or_len_is}
 use Rattle.std.proofs.lemmas.Slice.Eq.{bytes_eq-Decides}
 use Rattle.core_sums.specs.Places.{below, row_at}
 use Rattle.core_sums.proofs.Lists.{get_or-below, length-below}
-use Rattle.core_rows.specs.Names.{Record}
+use Rattle.core_rows.specs.Names.{Record, place_of}
 use Rattle.core_case.specs.View.{CaseView, instrument, instrument_of, line, no_instrument, no_line}
 use Rattle.core_case.specs.Kept.{IsCase}
 use Rattle.core_case.specs.declared.parts.Side.{Side}
 use Rattle.core_case.specs.declared.parts.Side.TheVariants.{Position, Collateral}
 use Rattle.core_model.specs.Closing.{line_count}
 use Rattle.core_cert.specs.Written.{side_word}
-use Rattle.core_cert.specs.Faults.{is_line_of, line_named, place_of}
+use Rattle.core_cert.specs.Faults.{is_line_of, line_named}
+use Rattle.core_cert.proofs.NamesApart.{same-instrument, same-side}
 
 -- a text is the same as itself
 pub same-bytes : (text : List ℕ) → bytes_eq text text ≡ true
@@ -35,33 +36,9 @@ place-is names i name under apart is = position_or_len_is (bytes_eq name) names 
 pub name-found : (names : List (List ℕ)) (i : ℕ) (name : List ℕ) → i < length names → row_at names i ≡ name → list_any (bytes_eq name) names ≡ true
 name-found names i name under is = list_any_at (bytes_eq name) names i [] under ((bytes_eq-Decides name (get_or names i [])).1 (sym is))
 
--- the names of things
-pub names-apart : {A : Type 0} (f : A → List ℕ) (xs : List A) (e : A) → AllPairs (λ x y. f x ≢ f y) xs → AllPairs (λ x y. x ≢ y) (map f xs)
-names-apart f xs e apart i j d less under same =
-    let size = length-map xs f in
-    let within : j < length xs = omega (arith, under, size) in
-    apart i j e less within (sym (get_or-map f xs i e d (omega (arith, less, within))) ∙ same ∙ get_or-map f xs j e d within)
-
 -- a number below another stands at its place
 below-at : (n k : ℕ) → k < n → get_or (below n) k 0 ≡ k
 below-at n k under = ap (λ xs. get_or xs k 0) (sym (map-id (below n))) ∙ get_or-below n k (λ x. x) 0 under
-
--- the words tell the sides apart
-same-side : (s t : Side) → side_word s ≡ side_word t → s ≡ t
-same-side Position Position e = refl
-same-side Position Collateral e = absurd (false≢true ((bytes_eq-Decides (codes "position") (codes "collateral")).1 e))
-same-side Collateral Position e = absurd (false≢true ((bytes_eq-Decides (codes "collateral") (codes "position")).1 e))
-same-side Collateral Collateral e = refl
-
--- and the names the instruments
-same-instrument : (c : CaseView) → IsCase c → (i j : ℕ) → i < length c.instruments → j < length c.instruments → (instrument c i).name ≡ (instrument c j).name → i ≡ j
-same-instrument c kept i j low high e = elim (cases_order i j) [
-  | inl same ↦ same
-  | inr other ↦ elim other [
-    | inl less ↦ absurd (kept.instruments.2 i j no_instrument less high e)
-    | inr more ↦ absurd (kept.instruments.2 j i no_instrument more low (sym e))
-  ]
-]
 
 -- a record names the line of its instrument and side
 pub line-is : (c : CaseView) → IsCase c → (l : ℕ) (word : List ℕ) (rest : Record) → l < line_count c
@@ -84,7 +61,7 @@ line-is c kept l word rest under = position_or_len_is (is_line_of c r) (below (l
         let names = (bytes_eq-Decides name (instrument c (instrument_of c k)).name).0 parts.0 in
         let sides = same-side (line c l).side (line c k).side ((bytes_eq-Decides (side_word (line c l).side) (side_word (line c k).side)).0 parts.1) in
         elim (kept.lines.1 k l no_line less under) [
-          | inl other ↦ other (same-instrument c kept (instrument_of c k) (instrument_of c l) (known k small) (known l under) (sym names))
+          | inl other ↦ other (same-instrument c (instrument_of c k) (instrument_of c l) kept (known k small) (known l under) (sym names))
           | inr other ↦ other (sym sides)
         ]
 

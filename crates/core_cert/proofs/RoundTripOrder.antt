@@ -3,10 +3,10 @@ use Rattle.std.proofs.Common.{◌≡◌, ◌∷◌, ◌∙◌, [], ℕ, List, Bo
 use Rattle.std.specs.Prelude.{not, ◌&&◌}
 use Rattle.std.specs.List.{find, list_any}
 use Rattle.std.specs.Str.{bytes_eq}
-use Rattle.core_rows.specs.Names.{Record}
+use Rattle.core_rows.specs.Names.{Record, field}
 use Rattle.core_cert.specs.declared.kinds.RecordKind.{RecordKind}
 use Rattle.core_cert.specs.declared.kinds.RecordKind.TheVariants.{Cert, Closes, Cannot, Amount, Loss, Margin, Weights, Scenario, Limit, Pool, Full, End}
-use Rattle.core_cert.specs.Kinds.{field, kind_of, is_kind, followers, word_of}
+use Rattle.core_cert.specs.Kinds.{kind_of, is_kind, followers, word_of}
 
 -- a record that begins with the word of a kind is of this kind
 abbrev pub HasKind : RecordKind → Record → Type 0

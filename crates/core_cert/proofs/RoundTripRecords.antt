@@ -6,7 +6,7 @@ use Rattle.std.specs.Ordering.{int_eq}
 use Rattle.std.proofs.lemmas.Bool.{lt-ltb}
 use Rattle.std.proofs.lemmas.List.{get_or-map, length-map}
 use Rattle.core_sums.specs.Places.{row_at}
-use Rattle.core_rows.specs.Names.{Record}
+use Rattle.core_rows.specs.Names.{Record, place_of}
 use Rattle.core_rows.specs.Fields.{IsName, number_text}
 use Rattle.core_rows.specs.Written.{IsPlainRow}
 use Rattle.core_rows.proofs.Plain.{decimal-plain, is_name-plain, number_text-plain, row-plain-more, row-plain-one, word-plain}
@@ -19,11 +19,12 @@ use Rattle.core_cert.specs.declared.kinds.RecordKind.TheVariants.{Amount, Scenar
 use Rattle.core_cert.specs.declared.forms.Form.TheVariants.{Name, SideWord, Day, NotZero}
 use Rattle.core_cert.specs.declared.faults.RecordFault.TheVariants.{NotInCase, NoSuchLine}
 use Rattle.core_cert.specs.Written.{side_word}
-use Rattle.core_cert.specs.Faults.{day_in, instrument_names, line_fault, line_named, name_fault, place_of, pool_names}
+use Rattle.core_cert.specs.Faults.{day_in, instrument_names, line_fault, line_named, name_fault, pool_names}
 use Rattle.core_cert.proofs.Plainly.{plain_side}
 use Rattle.core_cert.proofs.RoundTripBlocks.{IsGood}
 use Rattle.core_cert.proofs.RoundTripFields.{AreFit, day-number, fit-day, fit-fields, fit-name, fit-not_zero, fit-side, number_in-kept}
-use Rattle.core_cert.proofs.RoundTripNames.{line-is, name-found, names-apart, place-is}
+use Rattle.core_cert.proofs.NamesApart.{names-apart}
+use Rattle.core_cert.proofs.RoundTripNames.{line-is, name-found, place-is}
 use Rattle.core_cert.proofs.RoundTripSound.{no_fault}
 
 -- the instrument of a line, and its name

@@ -11,7 +11,8 @@ use Rattle.core_cert.specs.declared.kinds.RecordKind.TheVariants.{Cannot, Margin
 use Rattle.core_cert.specs.declared.faults.RecordFault.{RecordFault}
 use Rattle.core_cert.specs.declared.faults.RecordFault.TheVariants.{OutOfOrder, UnknownKind, AfterEnd, NotRising, EndMissing}
 use Rattle.core_cert.specs.Kinds.{kind_of, is_kind, followers, forms, word_of}
-use Rattle.core_cert.specs.Faults.{Faulty, by_form, case_fault, end_before, fault_of, fault_unless, fields_fault, first_fault, first_fault_after, first_of, is_follower, is_refusing, key_step, kind_step, last_record, later_fault, line_step, margin_step, missing_end, name_step, order_step, place_in}
+use Rattle.core_cert.specs.Faults.{Faulty, case_fault, end_before, fault_of, fields_fault, first_fault, first_fault_after, is_follower, is_refusing, key_step, kind_step, last_record, later_fault, line_step, margin_step, missing_end, name_step, order_step, place_in}
+use Rattle.core_rows.specs.Steps.{by_form, fault_unless, first_of}
 use Rattle.core_cert.proofs.RoundTripOrder.{HasKind, can_follow, kind-is, kind_of-word, same_kind}
 
 -- a record stands soundly after the record before it
@@ -110,7 +111,7 @@ sound_record c refusing x xs before r form last sound = first_of-three (end_befo
         ∙ first_of-three (order_step (x ∷ xs) r) (fields_fault (forms c.horizon c.last sound.kind) r) (case_fault c (x ∷ xs) sound.kind r) order sound.fields of_case
 
 -- the records after one without a fault
-abbrev after_fault : CaseView → List Record → Record → List Record → Option RecordFault → Option Faulty
+abbrev pub after_fault : CaseView → List Record → Record → List Record → Option RecordFault → Option Faulty
 after_fault c earlier r rs (Some fault) = Some (suc (length earlier), fault)
 after_fault c earlier r rs None = first_fault_after c (earlier ++ (r ∷ [])) rs
 

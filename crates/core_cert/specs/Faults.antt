@@ -1,12 +1,14 @@
 -- The first faulty record of a certificate, and its fault. A record is judged by the case, by the record before it and
 -- by the second record, in the order of the steps below, and the first step that fails gives the fault.
-use Rattle.std.specs.Prelude.{ℕ, zero, suc, ◌+◌, ◌-◌, ◌*◌, List, [], ◌∷◌, ◌++◌, length, map, drop, codes, ℤ, pos, int_le, unsigned_abs, Bool, true, false, not, ◌&&◌, ◌||◌, ◌==◌, nat_lt, if◌then◌else◌, Option, Some, None, is_some}
+use Rattle.std.specs.Prelude.{ℕ, zero, suc, ◌+◌, ◌-◌, ◌*◌, List, [], ◌∷◌, ◌++◌, length, map, codes, ℤ, pos, int_le, unsigned_abs, Bool, true, false, not, ◌&&◌, ◌||◌, nat_lt, if◌then◌else◌, Option, Some, None, is_some}
 use Rattle.std.specs.Ordering.{int_eq}
-use Rattle.std.specs.Option.{option_or, unwrap_or}
+use Rattle.std.specs.Option.{unwrap_or}
 use Rattle.std.specs.List.{list_any, position_or_len}
 use Rattle.std.specs.Str.{bytes_eq}
 use Rattle.core_sums.specs.Places.{below, row_at}
-use Rattle.core_rows.specs.Names.{Record}
+use Rattle.core_rows.specs.Names.{Record, field, place_of}
+use Rattle.core_rows.specs.Steps.{fault_unless, first_of}
+use Rattle.core_rows.specs.Steps as Steps
 use Rattle.core_rows.specs.Fields.{wide, name_of}
 use Rattle.core_case.specs.View.{CaseView, instrument, line, instrument_of}
 use Rattle.core_model.specs.Closing.{line_count}
@@ -17,17 +19,7 @@ use Rattle.core_cert.specs.declared.forms.Form.TheVariants.{Version, Name, SideW
 use Rattle.core_cert.specs.declared.faults.RecordFault.{RecordFault}
 use Rattle.core_cert.specs.declared.faults.RecordFault.TheVariants.{FirstNotCert, NotVersionOne, UnknownKind, OutOfOrder, FieldCount, NotAName, NotANumber, NotASide, OutOfRange, NotInCase, NoSuchLine, NotRising, NotTheMargin, AfterEnd, EndMissing}
 use Rattle.core_cert.specs.Written.{side_word, floored}
-use Rattle.core_cert.specs.Kinds.{field, kind_of, is_kind, followers, forms}
-
--- a fault where the test fails
-abbrev pub fault_unless : Bool → RecordFault → Option RecordFault
-fault_unless true fault = None
-fault_unless false fault = Some fault
-
--- the first fault of a list of steps
-unfoldable pub first_of : List (Option RecordFault) → Option RecordFault
-first_of [] = None
-first_of (x ∷ xs) = option_or x (first_of xs)
+use Rattle.core_cert.specs.Kinds.{kind_of, is_kind, followers, forms}
 
 -- the last of some records, empty where there is none
 abbrev pub last_record : List Record → Record
@@ -54,11 +46,7 @@ abbrev pub order_step : List Record → Record → Option RecordFault
 order_step [] r = None
 order_step (x ∷ xs) r = fault_unless (is_follower (is_refusing (x ∷ xs)) (kind_of (last_record (x ∷ xs))) r) OutOfOrder
 
--- step 4: the number of fields
-abbrev pub count_step : List Form → Record → Option RecordFault
-count_step fs r = fault_unless (length r == suc (length fs)) FieldCount
-
--- step 5: the form of each field, from left to right
+-- step 4: the number of fields, then step 5: the form of each field, from left to right
 abbrev pub is_side_word : List ℕ → Bool
 is_side_word word = bytes_eq word (codes "position") || bytes_eq word (codes "collateral")
 
@@ -81,12 +69,6 @@ range_fault SideWord word = None
 range_fault (Day first last) word = fault_unless (int_le (pos first) (number_in word) && int_le (number_in word) (pos last)) OutOfRange
 range_fault Numerator word = None
 range_fault NotZero word = fault_unless (not (int_eq (number_in word) (pos 0))) OutOfRange
-
--- a test of each field by its form
-unfoldable pub by_form : (Form → List ℕ → Option RecordFault) → List Form → Record → List (Option RecordFault)
-by_form test [] r = []
-by_form test (f ∷ fs) [] = []
-by_form test (f ∷ fs) (word ∷ r) = test f word ∷ by_form test fs r
 
 -- step 7: the case has the name
 abbrev pub instrument_names : CaseView → List (List ℕ)
@@ -124,9 +106,6 @@ line_step c _ r = None
 
 -- Step 9: the key is above that of the record before, where that is of the same kind. A key is a number of the case and
 -- a day; as one number it is the place in the list of the kind's numbers.
-abbrev pub place_of : List ℕ → List (List ℕ) → ℕ
-place_of name names = position_or_len (bytes_eq name) names
-
 abbrev pub day_in : Record → ℕ → ℕ
 day_in r n = unsigned_abs (number_in (field r n))
 
@@ -150,12 +129,7 @@ margin_step earlier _ r = None
 
 -- the steps on the fields of a record alone
 abbrev pub fields_fault : List Form → Record → Option RecordFault
-fields_fault fs r =
-    first_of
-    (count_step fs r
-    ∷ first_of (by_form form_fault fs (drop 1 r))
-    ∷ first_of (by_form range_fault fs (drop 1 r))
-    ∷ [])
+fields_fault fs r = Steps.fields_fault FieldCount form_fault range_fault fs r
 
 -- the steps on a record for a case, after the records before it
 abbrev pub case_fault : CaseView → List Record → RecordKind → Record → Option RecordFault

@@ -1,9 +1,9 @@
 -- The kinds of records of a certificate, one row a kind: its word, the fields that it has after it, and the kinds that
 -- may stand after it.
-use Rattle.std.specs.Prelude.{ℕ, List, [], ◌∷◌, codes, get_or, Bool, true, false, Option}
+use Rattle.std.specs.Prelude.{ℕ, List, [], ◌∷◌, codes, Bool, true, false, Option}
 use Rattle.std.specs.List.{find}
 use Rattle.std.specs.Str.{bytes_eq}
-use Rattle.core_rows.specs.Names.{Record}
+use Rattle.core_rows.specs.Names.{Record, field}
 use Rattle.core_cert.specs.declared.kinds.RecordKind.{RecordKind}
 use Rattle.core_cert.specs.declared.kinds.RecordKind.TheVariants.{Cert, Closes, Cannot, Amount, Loss, Margin, Weights, Scenario, Limit, Pool, Full, End}
 use Rattle.core_cert.specs.declared.forms.Form.{Form}
@@ -25,10 +25,6 @@ word_of End = codes "end"
 
 abbrev pub kinds : List RecordKind
 kinds = Cert ∷ Closes ∷ Cannot ∷ Amount ∷ Loss ∷ Margin ∷ Weights ∷ Scenario ∷ Limit ∷ Pool ∷ Full ∷ End ∷ []
-
--- the field of a record at a place, where 0 is the kind
-abbrev pub field : Record → ℕ → List ℕ
-field r n = get_or r n []
 
 -- whether a record is of a kind, and its kind
 abbrev pub is_kind : RecordKind → Record → Bool

@@ -3,7 +3,7 @@ use Rattle.std.specs.Prelude.{ℕ, suc, ◌-◌, ◌*◌, List, [], length, map,
 use Rattle.std.specs.Option.{unwrap_or}
 use Rattle.std.specs.List.{find}
 use Rattle.core_sums.specs.Places.{below}
-use Rattle.core_rows.specs.Names.{Record}
+use Rattle.core_rows.specs.Names.{Record, field}
 use Rattle.core_rows.specs.Fields.{records}
 use Rattle.core_case.specs.View.{CaseView}
 use Rattle.core_model.specs.declared.cert.Calendar.{Calendar}
@@ -14,7 +14,7 @@ use Rattle.core_model.specs.Closing.{line_count}
 use Rattle.core_cert.specs.declared.kinds.RecordKind.{RecordKind}
 use Rattle.core_cert.specs.declared.kinds.RecordKind.TheVariants.{Closes, Amount, Loss, Weights, Scenario, Limit, Pool, Full}
 use Rattle.core_cert.specs.Codes.{code_of}
-use Rattle.core_cert.specs.Kinds.{field, is_kind}
+use Rattle.core_cert.specs.Kinds.{is_kind}
 use Rattle.core_cert.specs.Faults.{Faulty, number_in, first_fault, is_refusing, place_in}
 
 -- the number that ends the first record of a kind at a place, 0 where there is none

@@ -1,29 +1,10 @@
 // Fields of a record: words, and the numbers and days that they write.
 ghost use Rattle.std.specs.Prelude.{◌≡◌, ◌<◌, ◌^◌};
-ghost use Rattle.std.specs.Str.{bytes_eq};
 ghost use Rattle.core_model.specs.Fits.{IsKept};
-ghost use Rattle.core_cert.specs.Kinds.{field};
 ghost use Rattle.core_cert.specs.Faults.{day_in, number_in};
 ghost use Rattle.core_cert.specs.Stated.{last_number};
 
 use core_rows::{Fields, wide};
-
-/// The field at an index, empty where the record has none.
-pub(crate) fn word(row: &Fields, i: usize) -> &[u8]
-    ensures { result.now ≡ field row.now i }
-{
-    match row.field(i) {
-        Some(word) => word,
-        None => &[],
-    }
-}
-
-/// Whether two words are the same.
-pub(crate) fn same(word: &[u8], other: &[u8]) -> bool
-    ensures { result ≡ bytes_eq word.now other.now }
-{
-    word == other
-}
 
 /// The number that a word writes, 0 where it writes none.
 pub(crate) fn number_in(word: &[u8]) -> i128
@@ -38,12 +19,12 @@ pub(crate) fn day_in(row: &Fields, i: usize) -> u128
     ensures value { result ≡ day_in row.now i }
     ensures bound { result < 2 ^ 127 }
 {
-    number_in(word(row, i)).unsigned_abs()
+    number_in(row.word(i)).unsigned_abs()
 }
 
 /// The number that ends a record, 0 where it ends with none.
 pub(crate) fn last_number(row: &Fields) -> i128
     ensures { result ≡ last_number row.now }
 {
-    number_in(word(row, row.len().saturating_sub(1)))
+    number_in(row.word(row.len().saturating_sub(1)))
 }

@@ -1,15 +1,16 @@
-// What the fields of a record are to be, and the faults of a record by itself.
-ghost use Rattle.std.specs.Prelude.{◌≡◌, ◌<◌, suc, length, get_or, drop, is_some};
+// What the fields of a record are to be, and the faults of a field.
+ghost use Rattle.std.specs.Prelude.{◌≡◌, ◌<◌, length, get_or, is_some};
 ghost use Rattle.core_rows.specs.Fields.{wide};
 ghost use Rattle.core_cert.specs.Kinds.{forms};
-ghost use Rattle.core_cert.specs.Faults.{by_form, fault_unless, fields_fault, first_of, form_fault, range_fault};
+ghost use Rattle.core_cert.specs.Faults.{form_fault, range_fault};
+ghost use Rattle.core_rows.specs.Steps.{fault_unless};
 ghost use Rattle.core_cert.specs.declared.faults.RecordFault.TheVariants.{NotANumber};
 ghost use Rattle.core_cert.specs.declared.forms.Form.TheVariants.{Version};
 
 use crate::faults::RecordFault;
-use crate::fields::{number_in, same, word};
+use crate::fields::number_in;
 use crate::kinds::RecordKind;
-use core_rows::{Fields, name_of, wide};
+use core_rows::{fault_unless, name_of, same, wide};
 
 /// What a field is to be.
 #[derive(Clone, Copy, Debug)]
@@ -36,7 +37,7 @@ pub(crate) struct Spans {
 }
 
 /// How many fields a record of this kind has after the first.
-fn field_count(spans: Spans, kind: RecordKind) -> usize
+pub(crate) fn field_count(spans: Spans, kind: RecordKind) -> usize
     ensures { result ≡ length (forms spans.horizon spans.last kind) }
 {
     match kind {
@@ -52,7 +53,7 @@ fn field_count(spans: Spans, kind: RecordKind) -> usize
 }
 
 /// What the field at a place after the kind is to be.
-fn form_at(spans: Spans, kind: RecordKind, place: usize) -> Form
+pub(crate) fn form_at(spans: Spans, kind: RecordKind, place: usize) -> Form
     requires { place < length (forms spans.horizon spans.last kind) }
     ensures { result ≡ get_or (forms spans.horizon spans.last kind) place Version }
 {
@@ -72,13 +73,6 @@ fn form_at(spans: Spans, kind: RecordKind, place: usize) -> Form
     }
 }
 
-/// The fault where the test fails.
-pub(crate) fn fault_unless(passes: bool, fault: RecordFault) -> Option<RecordFault>
-    ensures { result ≡ fault_unless passes fault }
-{
-    if passes { None } else { Some(fault) }
-}
-
 /// The fault of a word that is to be a number and is none.
 fn number_fault(word: &[u8]) -> Option<RecordFault>
     ensures { result ≡ fault_unless (is_some (wide word.now)) NotANumber }
@@ -87,7 +81,7 @@ fn number_fault(word: &[u8]) -> Option<RecordFault>
 }
 
 /// The fault of a field that has not its form.
-fn form_fault(form: Form, word: &[u8]) -> Option<RecordFault>
+pub(crate) fn form_fault(form: Form, word: &[u8]) -> Option<RecordFault>
     ensures { result ≡ form_fault form word.now }
 {
     match form {
@@ -102,7 +96,7 @@ fn form_fault(form: Form, word: &[u8]) -> Option<RecordFault>
 }
 
 /// The fault of a field that is out of its range.
-fn range_fault(form: Form, word: &[u8]) -> Option<RecordFault>
+pub(crate) fn range_fault(form: Form, word: &[u8]) -> Option<RecordFault>
     ensures { result ≡ range_fault form word.now }
 {
     match form {
@@ -116,43 +110,4 @@ fn range_fault(form: Form, word: &[u8]) -> Option<RecordFault>
         Form::NotZero => fault_unless(number_in(word) != 0, RecordFault::OutOfRange),
         Form::Version | Form::Name | Form::SideWord | Form::Numerator => None,
     }
-}
-
-/// The first fault of fields that have not their forms.
-fn forms_fault(spans: Spans, row: &Fields, kind: RecordKind) -> Option<RecordFault>
-    requires count { length row.now ≡ suc (length (forms spans.horizon spans.last kind)) }
-    ensures { result ≡ first_of (by_form form_fault (forms spans.horizon spans.last kind) (drop 1 row.now)) }
-{
-    for i in 1..row.len() {
-        if let Some(fault) = form_fault(form_at(spans, kind, i - 1), word(row, i)) {
-            return Some(fault);
-        }
-    }
-    None
-}
-
-/// The first fault of fields that are out of their ranges.
-fn ranges_fault(spans: Spans, row: &Fields, kind: RecordKind) -> Option<RecordFault>
-    requires count { length row.now ≡ suc (length (forms spans.horizon spans.last kind)) }
-    ensures { result ≡ first_of (by_form range_fault (forms spans.horizon spans.last kind) (drop 1 row.now)) }
-{
-    for i in 1..row.len() {
-        if let Some(fault) = range_fault(form_at(spans, kind, i - 1), word(row, i)) {
-            return Some(fault);
-        }
-    }
-    None
-}
-
-/// The fault of the fields of a record of this kind: their number, their forms, their ranges.
-pub(crate) fn fields_fault(spans: Spans, row: &Fields, kind: RecordKind) -> Option<RecordFault>
-    ensures { result ≡ fields_fault (forms spans.horizon spans.last kind) row.now }
-{
-    if row.len() != field_count(spans, kind) + 1 {
-        return Some(RecordFault::FieldCount);
-    }
-    if let Some(fault) = forms_fault(spans, row, kind) {
-        return Some(fault);
-    }
-    ranges_fault(spans, row, kind)
 }

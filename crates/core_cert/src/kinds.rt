@@ -2,8 +2,7 @@
 ghost use Rattle.std.specs.Prelude.{◌≡◌};
 ghost use Rattle.core_cert.specs.Kinds.{after_weights, followers, is_kind, kind_of, word_of};
 
-use crate::fields::{same, word};
-use core_rows::Fields;
+use core_rows::{Fields, same};
 
 /// What a record of a certificate is of, by its first field.
 #[derive(Clone, Copy, Debug, PartialEq, Eq)]
@@ -64,7 +63,7 @@ impl RecordKind {
 pub(crate) fn is_kind(kind: RecordKind, row: &Fields) -> bool
     ensures { result ≡ is_kind kind row.now }
 {
-    same(word(row, 0), kind.word())
+    same(row.word(0), kind.word())
 }
 
 /// The kind of a record, none where its first field is the word of no kind.

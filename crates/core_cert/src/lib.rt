@@ -9,6 +9,7 @@ mod laws;
 mod names;
 mod read;
 mod record;
+mod shape;
 mod state;
 mod steps;
 #[cfg(test)]

@@ -2,16 +2,17 @@
 ghost use Rattle.std.specs.Prelude.{◌≡◌, ◌≢◌, ◌<◌, ◌≤◌, ◌+◌, ◌*◌, ◌^◌, map, IfOk};
 ghost use Rattle.std.specs.List.{AllPairs, list_any};
 ghost use Rattle.std.specs.Str.{bytes_eq};
-ghost use Rattle.core_cert.specs.Faults.{instrument_names, place_of, pool_names};
+ghost use Rattle.core_cert.specs.Faults.{instrument_names, pool_names};
+ghost use Rattle.core_rows.specs.Names.{place_of};
 ghost use Rattle.core_cert.specs.Numbered.{key_words, lines_words};
 
 use crate::faults::RecordFault;
-use crate::fields::{day_in, word};
-use crate::forms::{Spans, fault_unless};
+use crate::fields::day_in;
+use crate::forms::Spans;
 use crate::kinds::RecordKind;
 use crate::record::side_word;
 use core_case::Case;
-use core_rows::{Fields, Name};
+use core_rows::{Fields, Name, fault_unless};
 use indexmap::IndexSet;
 use std::alloc::{AllocError, Global};
 use std::marker::Model;
@@ -211,8 +212,8 @@ impl<'a> CaseNames<'a> {
         ensures { result ≡ line_named self.now row.now }
     {
         match self.lines.get_index_of(&LineKey {
-            instrument: word(row, 1),
-            side: word(row, 2),
+            instrument: row.word(1),
+            side: row.word(2),
         }) {
             Some(line) => line,
             None => self.lines.len(),
@@ -223,7 +224,7 @@ impl<'a> CaseNames<'a> {
     pub(crate) fn name_fault(&self, kind: RecordKind, row: &Fields) -> Option<RecordFault>
         ensures { result ≡ name_step self.now kind row.now }
     {
-        let name = word(row, 1);
+        let name = row.word(1);
         match kind {
             RecordKind::Amount | RecordKind::Limit | RecordKind::Full => {
                 fault_unless(has_name(&self.instruments, name), RecordFault::NotInCase)
@@ -254,7 +255,7 @@ impl<'a> CaseNames<'a> {
     pub(crate) fn place(&self, kind: RecordKind, row: &Fields) -> u128
         ensures { result ≡ place_in self.now kind row.now }
     {
-        let name = word(row, 1);
+        let name = row.word(1);
         match kind {
             RecordKind::Amount => self.closing_place(self.line_named(row), day_in(row, 3)),
             RecordKind::Scenario => {

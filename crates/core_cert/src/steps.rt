@@ -1,14 +1,15 @@
 // The faults of a record of a certificate, by the case and the records before it.
 ghost use Rattle.std.specs.Prelude.{◌≡◌, ◌≤◌, ◌<◌, [], Some, None, IfOk, IfErr, IfSome, IfNone, length};
-ghost use Rattle.core_cert.specs.Kinds.{field, is_kind, kind_of};
+ghost use Rattle.core_cert.specs.Kinds.{is_kind, kind_of};
+ghost use Rattle.core_rows.specs.Names.{field};
 ghost use Rattle.core_cert.specs.Faults.{case_fault, fault_of, is_follower, is_refusing, key_step, kind_step, last_record, later_fault, margin_step, number_in, order_step};
 
 use crate::faults::RecordFault;
-use crate::fields::{number_in, word};
-use crate::forms::{fault_unless, fields_fault};
+use crate::fields::number_in;
 use crate::kinds::{RecordKind, followers, is_kind, kind_of};
 use crate::names::CaseNames;
-use core_rows::Fields;
+use crate::shape::fields_fault;
+use core_rows::{Fields, fault_unless};
 
 /// The last of some records, none where there is none.
 fn last_of(earlier: &[Fields]) -> Option<&Fields>
@@ -103,7 +104,7 @@ fn last_loss(earlier: &[Fields]) -> i128
     ensures { result ≡ number_in (field (last_record earlier.now) 1) }
 {
     match last_of(earlier) {
-        Some(last) => number_in(word(last, 1)),
+        Some(last) => number_in(last.word(1)),
         None => 0,
     }
 }
@@ -114,7 +115,7 @@ fn margin_fault(earlier: &[Fields], row: &Fields, kind: RecordKind) -> Option<Re
 {
     match kind {
         RecordKind::Margin => fault_unless(
-            number_in(word(row, 1)) == last_loss(earlier).max(0),
+            number_in(row.word(1)) == last_loss(earlier).max(0),
             RecordFault::NotTheMargin,
         ),
         _ => None,

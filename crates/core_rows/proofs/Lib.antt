@@ -9,3 +9,9 @@ pub mod Plain
 pub mod Numbers
 pub mod ReadBack
 mod Dates
+pub mod RecordCount
+pub mod FirstStep
+pub mod FieldWalk
+pub mod NamePlaces
+pub mod NamesApart
+pub mod OneByOne

@@ -1,5 +1,6 @@
 // One record of a text.
 ghost use Rattle.std.specs.Prelude.{◌≡◌, ◌<◌, ◌↔◌, IsSome, length, option_map, slice_get};
+ghost use Rattle.std.specs.Str.{bytes_eq};
 
 use csv::ByteRecord;
 use std::marker::Model;
@@ -21,6 +22,7 @@ impl Model for Fields {
 
 impl Fields {
     ghost use Rattle.csv.specs.Records.{fields_of};
+    ghost use Rattle.core_rows.specs.Names.{field};
 
     /// How many fields the record has.
     pub fn len(&self) -> usize
@@ -37,10 +39,27 @@ impl Fields {
         self.row.get(i)
     }
 
+    /// The field at this index, empty where the record has none.
+    pub fn word(&self, i: usize) -> &[u8]
+        ensures { result.now ≡ field self.now i }
+    {
+        match self.field(i) {
+            Some(word) => word,
+            None => &[],
+        }
+    }
+
     /// The record that was read.
     pub(crate) fn of_row(row: ByteRecord) -> Fields
         ensures { result ≡ fields_of row }
     {
         Fields { row }
     }
+}
+
+/// Whether two words are the same.
+pub fn same(word: &[u8], other: &[u8]) -> bool
+    ensures { result ≡ bytes_eq word.now other.now }
+{
+    word == other
 }

@@ -3,8 +3,9 @@ use Rattle.core_case.specs.Faults.{first_fault, missing_end}
 use Rattle.core_case.specs.Inside.{book_view}
 use Rattle.core_case.specs.Refusals.{RefusesBytes}
 use Rattle.core_case.specs.declared.read.CaseFault.TheVariants.{NoMemory}
-use Rattle.core_case.proofs.FormsFirst.{error-same}
-use Rattle.core_case.proofs.ReadingCase.{few-records, few-registered, fault-at_end, no-fault, register-whole, case-read, case-kept, refused-is}
+use Rattle.core_rows.proofs.OneByOne.{error-same}
+use Rattle.core_case.proofs.ReadingCase.{few-registered, fault-at_end, no-fault, register-whole, case-read, case-kept, refused-is}
+use Rattle.core_rows.proofs.RecordCount.{few-records}
 use Rattle.core_case.proofs.read.read_case.Goals as goal
 
 pub returns-in_err-rows-clause-refused : goal.returns-in_err-rows-clause-refused

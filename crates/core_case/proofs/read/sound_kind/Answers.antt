@@ -1,6 +1,6 @@
 use Rattle.std.proofs.Common.{◌≡◌, Some, None}
 use Rattle.core_case.specs.Faults.{fault_of}
-use Rattle.core_case.proofs.FormsFirst.{error-same}
+use Rattle.core_rows.proofs.OneByOne.{error-same}
 use Rattle.core_case.proofs.ReadingFaults.{ended-fault, kind-fault, later-fault, own-found, book-found, kind-is}
 use Rattle.core_case.proofs.read.sound_kind.Goals as goal
 

@@ -1,7 +1,7 @@
 use Rattle.std.proofs.Common.{sym, ◌∙◌, ap, subst, map}
 use Rattle.std.specs.List.{All}
 use Rattle.core_rows.specs.Fields.{IsName}
-use Rattle.core_case.specs.Kinds.{field}
+use Rattle.core_rows.specs.Names.{field}
 use Rattle.core_case.proofs.StateWhole.{scenarios_named}
 use Rattle.core_case.proofs.state.book_scenarios.Goals as goal
 

@@ -1,6 +1,5 @@
 use Rattle.std.proofs.Common.{◌≡◌, ◌∙◌, ap, map}
-use Rattle.core_case.specs.Kinds.{field}
-use Rattle.core_case.specs.Stated.{place_of}
+use Rattle.core_rows.specs.Names.{field, place_of}
 use Rattle.core_case.proofs.StateRows.{one_more_row}
 use Rattle.core_case.proofs.state.markets.Goals as goal
 

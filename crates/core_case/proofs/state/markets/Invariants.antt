@@ -1,6 +1,5 @@
 use Rattle.std.proofs.Common.{◌≡◌, map, take}
-use Rattle.core_case.specs.Kinds.{field}
-use Rattle.core_case.specs.Stated.{place_of}
+use Rattle.core_rows.specs.Names.{field, place_of}
 use Rattle.core_case.proofs.state.markets.Given as goal
 
 abbrev pub invariant-loop-row : goal.invariant-loop-row

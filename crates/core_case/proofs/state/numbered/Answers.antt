@@ -1,7 +1,8 @@
 use Rattle.std.proofs.Common.{◌+◌, ◌++◌, length, map, arith}
 use Rattle.std.proofs.lemmas.List.{length-map}
 use Rattle.core_case.specs.Stated.{names_in}
-use Rattle.core_case.proofs.StateNames.{name_at, one_more_name}
+use Rattle.core_case.proofs.StateNames.{name_at}
+use Rattle.core_rows.proofs.NamesApart.{one_more_name}
 use Rattle.core_case.proofs.state.numbered.Goals as goal
 
 pub loop-row-preserved : goal.loop-row-preserved

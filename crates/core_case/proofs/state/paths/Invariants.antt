@@ -1,5 +1,5 @@
 use Rattle.std.proofs.Common.{◌≡◌, map, take}
-use Rattle.core_case.specs.Kinds.{field}
+use Rattle.core_rows.specs.Names.{field}
 use Rattle.core_case.specs.Stated.{names_in, prices_of}
 use Rattle.core_case.proofs.state.paths.Given as goal
 

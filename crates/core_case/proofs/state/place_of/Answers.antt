@@ -1,5 +1,5 @@
 use Rattle.std.proofs.Common.{sym, ◌∙◌}
-use Rattle.core_case.proofs.StatePlaces.{place-found, place-missing}
+use Rattle.core_rows.proofs.NamePlaces.{place-found, place-missing}
 use Rattle.core_case.proofs.state.place_of.Goals as goal
 
 pub returns-in-Some : goal.returns-in-Some

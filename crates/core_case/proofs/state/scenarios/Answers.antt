@@ -1,5 +1,5 @@
 use Rattle.core_rows.specs.Fields.{IsName}
-use Rattle.core_case.specs.Kinds.{field}
+use Rattle.core_rows.specs.Names.{field}
 use Rattle.core_case.proofs.StateRows.{holds_at}
 use Rattle.core_case.proofs.state.scenarios.Goals as goal
 

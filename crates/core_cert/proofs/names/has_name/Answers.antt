@@ -1,6 +1,6 @@
 use Rattle.std.proofs.Common.{◌∙◌, sym}
 use Rattle.std.specs.Str.{bytes_eq}
-use Rattle.core_cert.proofs.NamePlaces.{list_any-map}
+use Rattle.core_rows.proofs.NamePlaces.{list_any-map}
 use Rattle.core_cert.proofs.names.has_name.Goals as goal
 
 pub returns : goal.returns

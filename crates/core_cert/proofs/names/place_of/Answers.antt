@@ -1,5 +1,5 @@
 use Rattle.std.proofs.Common.{sym, ◌∙◌}
-use Rattle.core_cert.proofs.NamePlaces.{place-found, place-missing}
+use Rattle.core_rows.proofs.NamePlaces.{place-found, place-missing}
 use Rattle.core_cert.proofs.names.place_of.Goals as goal
 
 pub returns-in-Some : goal.returns-in-Some

@@ -1,6 +1,7 @@
 use Rattle.core_cert.specs.Refusals.{RefusesRecords}
 use Rattle.core_cert.specs.declared.read.CertFault.TheVariants.{NoMemory}
-use Rattle.core_cert.proofs.ReadingRows.{accepted-is, error-same, refused-is}
+use Rattle.core_cert.proofs.ReadingRows.{accepted-is, refused-is}
+use Rattle.core_rows.proofs.OneByOne.{error-same}
 use Rattle.core_cert.proofs.read.cert_among.Goals as goal
 
 pub returns-in_err-sound-clause-refused : goal.returns-in_err-sound-clause-refused

@@ -2,7 +2,8 @@ use Rattle.std.proofs.Common.{◌≡◌, ◌∙◌}
 use Rattle.std.proofs.lemmas.Result.{IfErr-weaker, IfOk-weaker}
 use Rattle.core_rows.specs.Fields.{records}
 use Rattle.core_cert.proofs.PlainReading.{accepted-plain}
-use Rattle.core_cert.proofs.ReadingRows.{accepted-fits, bytes-accepted, bytes-refused, few-records}
+use Rattle.core_cert.proofs.ReadingRows.{accepted-fits, bytes-accepted, bytes-refused}
+use Rattle.core_rows.proofs.RecordCount.{few-records}
 use Rattle.core_cert.proofs.read.read_cert.Goals as goal
 
 pub cert_for-requires : goal.cert_for-requires

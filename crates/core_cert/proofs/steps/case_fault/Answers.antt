@@ -1,5 +1,5 @@
 use Rattle.std.proofs.Common.{Some}
-use Rattle.core_cert.proofs.FormsFirst.{first_of-fails, first_of-passes, first_of-last}
+use Rattle.core_rows.proofs.FirstStep.{first_of-fails, first_of-passes, first_of-last}
 use Rattle.core_cert.proofs.steps.case_fault.Goals as goal
 
 pub returns-in-Some : goal.returns-in-Some

@@ -1,6 +1,7 @@
 -- Each instrument is seen once.
 use Rattle.std.proofs.Common.{◌∙◌, sym, ap, map, is_some}
-use Rattle.core_case.specs.Kinds.{field, is_kind}
+use Rattle.core_case.specs.Kinds.{is_kind}
+use Rattle.core_rows.specs.Names.{field}
 use Rattle.core_case.specs.Faults.{has_path, filed}
 use Rattle.core_case.specs.declared.kinds.RecordKind.TheVariants.{Instrument, Path}
 use Rattle.core_case.proofs.FiledRows.{passed-more, passed-other, passed-test, passed-all, failed-at}

@@ -1,5 +1,5 @@
 -- How many records a text has.
-use Rattle.std.proofs.Common.{ℕ, zero, suc, ◌+◌, ◌≤◌, List, [], ◌∷◌, length, arith, Bool, true, false, if◌then◌else◌, Option, Some, None}
+use Rattle.std.proofs.Common.{◌≡◌, ap, ℕ, zero, suc, ◌+◌, ◌<◌, ◌≤◌, List, [], ◌∷◌, length, arith, Bool, true, false, if◌then◌else◌, Option, Some, None}
 use Rattle.csv.specs.Reading.{is_bom, strip_bom, records_from, records_next, default_config}
 use Rattle.csv.specs.Machine.{Read, next_record}
 use Rattle.csv.specs.declared.parser.Config.{Config}
@@ -34,8 +34,12 @@ strip_bom-shorter (a ∷ b ∷ []) = omega arith
 strip_bom-shorter (a ∷ b ∷ c ∷ rest) = bom-shorter (is_bom a b c) a b c rest
 
 -- a text has at most one record more than bytes
-pub records-count : (bytes : List ℕ) → length (records bytes) ≤ length bytes + 1
+records-count : (bytes : List ℕ) → length (records bytes) ≤ length bytes + 1
 records-count bytes =
     let few : length (records bytes) ≤ length (strip_bom bytes) + 1 =
     records_from-count default_config (length (strip_bom bytes) + 1) st.StartRecord (strip_bom bytes) in
     omega (arith, few, strip_bom-shorter bytes)
+
+-- the records of a text of four million bytes can be numbered
+pub few-records : (bytes : List ℕ) (rows : List Record) → length bytes ≤ 4194304 → rows ≡ records bytes → length rows < 2147483648
+few-records bytes rows short are = omega (arith, short, ap length are, records-count bytes)

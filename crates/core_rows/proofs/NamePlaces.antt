@@ -1,10 +1,20 @@
 -- The place of a name among keys that are seen by their bytes.
-use Rattle.std.proofs.Common.{◌≡◌, refl, sym, ◌∙◌, ap, ℕ, ◌+◌, Bool, true, false, cond, ltb, not, List, [], ◌∷◌, length, map, position, Some, None, Bor, arith}
+use Rattle.std.proofs.Common.{◌≡◌, refl, sym, ◌∙◌, ap, ℕ, ◌+◌, Bool, true, false, ◌||◌, cond, ltb, not, List, [], ◌∷◌, length, map, position, Some, None, Bor, arith}
 use Rattle.std.specs.Str.{bytes_eq}
-use Rattle.std.specs.List.{prefix_len, position_or_len}
+use Rattle.std.specs.List.{list_any, prefix_len, position_or_len}
 use Rattle.std.proofs.lemmas.Bool.Decides.{nat_tests}
+use Rattle.std.proofs.lemmas.Cmp.{nat_list_eq_equiv}
 use Rattle.std.proofs.lemmas.List.Sums.{prefix_len-le-length}
-use Rattle.core_case.specs.Stated.{place_of}
+use Rattle.core_rows.specs.Names.{place_of}
+
+-- the test of bytes is the same either way round
+pub bytes_eq-sym : (xs ys : List ℕ) → bytes_eq xs ys ≡ bytes_eq ys xs
+bytes_eq-sym xs ys = nat_list_eq_equiv.symm xs ys
+
+-- whether an element passes, seen by a map
+pub list_any-map : {K A : Type 0} (p : A → Bool) (seen : K → A) (keys : List K) → list_any p (map seen keys) ≡ list_any (λ k. p (seen k)) keys
+list_any-map p seen [] = refl
+list_any-map p seen (k ∷ keys) = ap (λ b. p (seen k) || b) (list_any-map p seen keys)
 
 -- the front of a list that passes, seen by a map
 pub prefix_len-map : {K A : Type 0} (p : A → Bool) (seen : K → A) (keys : List K) → prefix_len p (map seen keys) ≡ prefix_len (λ k. p (seen k)) keys

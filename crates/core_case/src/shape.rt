@@ -1,0 +1,89 @@
+// The faults of a record by itself.
+ghost use Rattle.std.specs.Prelude.{◌≡◌, Some, None, IfOk, IfErr};
+ghost use Rattle.core_case.specs.Kinds.{forms};
+ghost use Rattle.core_case.specs.Faults.{form_fault, order_step, own_fault, range_fault, zero_step};
+
+use crate::faults::RecordFault;
+use crate::fields::number_in;
+use crate::forms::{Form, field_count, field_in_range, form_at};
+use crate::kinds::RecordKind;
+use crate::spans::Spans;
+use core_rows::{Fields, Shape, fault_unless, fields_fault};
+
+/// What the fields of a record of a kind are to be, in a case of these days.
+#[derive(Drop)]
+struct RecordShape<'a> {
+    spans: Spans,
+    row: &'a Fields,
+    kind: RecordKind,
+}
+
+impl<'a> Shape for RecordShape<'a> {
+    type Form = Form;
+
+    type Fault = RecordFault;
+
+    ghost forms = { λ a. forms a.spans.horizon a.spans.last a.row.now a.kind };
+
+    ghost form_fault = { form_fault };
+
+    ghost range_fault = { range_fault };
+
+    fn count(&self) -> usize {
+        field_count(self.spans, self.row, self.kind)
+    }
+
+    fn form_at(&self, place: usize) -> Form {
+        form_at(self.spans, self.row, self.kind, place)
+    }
+
+    fn judge(form: Form, word: &[u8]) -> Result<Option<RecordFault>, RecordFault>
+        ensures form { IfOk result (λ _. form_fault form word.now ≡ None) }
+        ensures range { IfOk result (λ fault. range_fault form word.now ≡ fault) }
+        ensures fault { IfErr result (λ fault. form_fault form word.now ≡ Some fault) }
+    {
+        let in_range = field_in_range(form, word)?;
+        Ok(fault_unless(in_range, RecordFault::OutOfRange))
+    }
+}
+
+/// The fault of a record that does not stand in its place: `core` is the first, `house` the second.
+fn order_fault(place: usize, kind: RecordKind) -> Option<RecordFault>
+    ensures { result ≡ order_step place kind }
+{
+    let in_order = match place {
+        0 => true,
+        1 => kind == RecordKind::House,
+        _ => kind != RecordKind::Core && kind != RecordKind::House,
+    };
+    fault_unless(in_order, RecordFault::OutOfOrder)
+}
+
+/// The fault of a position of 0.
+fn zero_fault(row: &Fields, kind: RecordKind) -> Option<RecordFault>
+    ensures { result ≡ zero_step row.now kind }
+{
+    fault_unless(
+        kind != RecordKind::Position || number_in(row, 2) != 0,
+        RecordFault::OutOfRange,
+    )
+}
+
+/// The fault of a record of this kind by itself, where so many records came before.
+pub(crate) fn own_fault(
+    place: usize,
+    spans: Spans,
+    row: &Fields,
+    kind: RecordKind,
+) -> Option<RecordFault>
+    ensures { result ≡ own_fault place (forms spans.horizon spans.last row.now kind) row.now kind }
+{
+    if let Some(fault) = order_fault(place, kind) {
+        return Some(fault);
+    }
+    let shape = RecordShape { spans, row, kind };
+    if let Some(fault) = fields_fault(&shape, row, RecordFault::FieldCount) {
+        return Some(fault);
+    }
+    zero_fault(row, kind)
+}
