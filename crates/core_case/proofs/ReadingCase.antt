@@ -1,5 +1,5 @@
 -- A case is read from sound records that end.
-use Rattle.std.proofs.Common.{◌≡◌, sym, ◌∙◌, ap, subst, ℕ, ◌<◌, ◌≤◌, List, length, arith, Option, None, Ok, Err}
+use Rattle.std.proofs.Common.{◌≡◌, sym, ◌∙◌, ap, subst, ℕ, ◌<◌, ◌≤◌, List, length, Option, None, Ok, Err}
 use Rattle.core_rows.specs.Names.{Record}
 use Rattle.core_rows.specs.Fields.{records}
 use Rattle.core_case.specs.Faults.{Faulty, first_fault, missing_end}

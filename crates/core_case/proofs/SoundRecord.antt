@@ -1,9 +1,7 @@
 -- What a sound record keeps, step by step, and that all records before a first fault are sound.
-use Rattle.std.proofs.Common.{◌≡◌, refl, sym, ◌∙◌, ap, subst, cond, ℕ, zero, suc, ◌+◌, ◌<◌, ◌≤◌, ◌⊎◌, inl, inr, arith, List, [], ◌∷◌, ◌++◌, length, take, drop, map, get_or, length-drop, Bool, true, false, not, is_some, Option, Some, None}
-use Rattle.std.specs.Option.{option_or}
-use Rattle.std.specs.List.{find}
+use Rattle.std.proofs.Common.{◌≡◌, refl, sym, ap, subst, cond, ℕ, zero, suc, ◌<◌, ◌≤◌, ◌⊎◌, inl, inr, arith, List, [], ◌∷◌, ◌++◌, length, take, map, get_or, Bool, true, false, is_some, Option, Some, None}
 use Rattle.std.proofs.lemmas.Bool.{eqb-true, cases_lt}
-use Rattle.std.proofs.lemmas.List.{append-nil, append_assoc, length-append, take_at, get_or_at, get_or-drop}
+use Rattle.std.proofs.lemmas.List.{append-nil, append_assoc, length-append, take_at, get_or_at}
 use Rattle.core_sums.specs.Places.{row_at}
 use Rattle.core_rows.specs.Names.{Record, field}
 use Rattle.core_case.specs.declared.kinds.RecordKind.{RecordKind}
@@ -14,7 +12,7 @@ use Rattle.core_case.specs.declared.faults.RecordFault.{RecordFault}
 use Rattle.core_case.specs.declared.faults.RecordFault.TheVariants.{EndMissing}
 use Rattle.core_case.specs.Kinds.{is_kind, kind_of, kinds, forms, references}
 use Rattle.core_case.specs.Faults.{Faulty, fault_of, first_fault, first_fault_after, missing_end, end_before, kind_step, later_fault, own_fault, book_fault, form_fault, range_fault, horizon_in, last_in, order_step, zero_step, name_step, security_step, repeats, has_room, end_step, has_ended}
-use Rattle.core_rows.specs.Steps.{fault_unless, first_of, by_form}
+use Rattle.core_rows.specs.Steps.{first_of}
 use Rattle.core_rows.proofs.FirstStep.{holds-from_none, fails-from_none, neither, first_of-parts}
 use Rattle.core_rows.proofs.FieldWalk.{field-at}
 use Rattle.core_case.proofs.ReadingFaults.{find-passes}

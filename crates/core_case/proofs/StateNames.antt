@@ -1,12 +1,6 @@
 -- Names that differ, inserted one after another into a set.
-use Rattle.std.proofs.Common.{◌≡◌, ◌≢◌, refl, sym, ◌∙◌, ap, ℕ, ◌+◌, ◌<◌, Bool, false, ◌||◌, if◌then◌else◌, List, [], ◌∷◌, ◌++◌, length, map, get_or, take, Bor, arith}
-use Rattle.std.specs.List.{AllPairs, list_any}
-use Rattle.std.specs.Str.{bytes_eq}
-use Rattle.std.proofs.lemmas.List.{take_more, get_or-append-add, get_or-map, get_or_read, get_or-take, length-map, map_push, length-take-le, length-append}
-use Rattle.std.proofs.lemmas.List.Folds.{list_any_none}
-use Rattle.std.proofs.lemmas.Slice.Eq.{bytes_eq-Decides}
-use Rattle.std.proofs.lemmas.Bool.{false_from_ne_true}
-use Rattle.indexmap.specs.IndexSet.{insert_key}
+use Rattle.std.proofs.Common.{◌≡◌, sym, ◌∙◌, ap, ℕ, ◌+◌, ◌<◌, List, ◌++◌, length, map, get_or, arith}
+use Rattle.std.proofs.lemmas.List.{get_or-append-add, get_or-map, length-map, length-append}
 use Rattle.core_rows.specs.Names.{Record, field}
 use Rattle.core_case.specs.Stated.{names_in}
 

@@ -56,7 +56,9 @@ fn open_days(
     days: &[Date],
     holidays: &[Vec<Date>],
 ) -> Result<Vec<Vec<bool>>, AllocError>
-    ensures { IfOk result (λ v. AreOpenDays (map (λ h. map epoch_day h.items) holidays.now) (map epoch_day days.now) (map (λ flags. flags.items) v.items)) }
+    ensures { IfOk result (λ v.
+        AreOpenDays (map (λ h. map epoch_day h.items) holidays.now) (map epoch_day days.now)
+        (map (λ flags. flags.items) v.items)) }
 {
     let mut open_days = Vec::with_capacity(alloc, holidays.len())?;
     for market in holidays {
@@ -156,7 +158,8 @@ impl Case {
     fn open_days_of(&self, i: usize) -> &Vec<bool>
         requires { i < length self.now.instruments }
         ensures count { length result.now.items ≡ suc self.now.last }
-        ensures each { (t : ℕ) → t ≤ self.now.last → flag_at result.now.items t ≡ is_open self.now i t }
+        ensures each { (t : ℕ) → t ≤ self.now.last
+            → flag_at result.now.items t ≡ is_open self.now i t }
         ensures bound { self.now.last ≤ 40 }
     {
         &self.open_days[self.book.markets[i]]

@@ -1,10 +1,10 @@
-// What the fields of a record are to be, and the faults of a record by itself.
-ghost use Rattle.std.specs.Prelude.{◌≡◌, ◌<◌, ◌^◌, [], suc, length, get_or, drop, true, false, if◌then◌else◌, is_some, Some, None, Ok, Err, IfOk, IfErr};
+// What the fields of a record are to be, and the faults of a field.
+ghost use Rattle.std.specs.Prelude.{◌≡◌, ◌<◌, [], length, get_or, true, false, if◌then◌else◌, is_some, Some, None, Ok, Err, IfOk, IfErr};
 ghost use Rattle.jiff.specs.Words.{epoch_day};
 ghost use Rattle.core_rows.specs.Fields.{day_of};
 ghost use Rattle.core_case.specs.Kinds.{forms};
-ghost use Rattle.core_case.specs.Faults.{first_date, form_fault, is_between, order_step, own_fault, range_fault, zero_step};
-ghost use Rattle.core_rows.specs.Steps.{by_form, fault_unless, first_of};
+ghost use Rattle.core_case.specs.Faults.{first_date, form_fault, is_between, range_fault};
+ghost use Rattle.core_rows.specs.Steps.{fault_unless};
 ghost use Rattle.core_case.specs.declared.faults.RecordFault.TheVariants.{NotADate, OutOfRange};
 ghost use Rattle.core_case.specs.declared.forms.Form.TheVariants.{Version, Number};
 ghost use Rattle.core_case.specs.declared.kinds.RecordKind.TheVariants.{Instrument};
@@ -107,8 +107,10 @@ fn true_unless(passes: bool, fault: RecordFault) -> Result<bool, RecordFault>
 /// Whether the date that a word writes lies from the first date to `last`, or the fault of a word that writes none.
 fn date_in_range(word: &[u8], last: Date) -> Result<bool, RecordFault>
     ensures form { IfOk result (λ _. is_some (day_of word.now) ≡ true) }
-    ensures range { IfOk result (λ within. is_between first_date (epoch_day last) (day_of word.now) ≡ within) }
-    ensures fault { IfErr result (λ fault. (fault ≡ NotADate) × (is_some (day_of word.now) ≡ false)) }
+    ensures range { IfOk result (λ within.
+        is_between first_date (epoch_day last) (day_of word.now) ≡ within) }
+    ensures fault { IfErr result (λ fault.
+        (fault ≡ NotADate) × (is_some (day_of word.now) ≡ false)) }
 {
     match day_text(word) {
         Some(day) => Ok(day_is_between(day, first_date(), last)),
@@ -119,7 +121,8 @@ fn date_in_range(word: &[u8], last: Date) -> Result<bool, RecordFault>
 /// Whether a field is in its range, or the fault of a field that has not its form.
 pub(crate) fn field_in_range(form: Form, word: &[u8]) -> Result<bool, RecordFault>
     ensures form { IfOk result (λ _. form_fault form word.now ≡ None) }
-    ensures range { IfOk result (λ within. range_fault form word.now ≡ fault_unless within OutOfRange) }
+    ensures range { IfOk result (λ within.
+        range_fault form word.now ≡ fault_unless within OutOfRange) }
     ensures fault { IfErr result (λ fault. form_fault form word.now ≡ Some fault) }
 {
     match form {

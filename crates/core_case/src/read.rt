@@ -40,7 +40,8 @@ impl From<AllocError> for CaseFault {
 
 /// The kind of a record, where so many came before: the first is `core`, and each is of some kind.
 fn known_kind(place: usize, row: &Fields) -> Result<RecordKind, RecordFault>
-    ensures known { IfOk result (λ kind. (kind_step place row.now ≡ None) × (kind_of row.now ≡ Some kind)) }
+    ensures known { IfOk result (λ kind.
+        (kind_step place row.now ≡ None) × (kind_of row.now ≡ Some kind)) }
     ensures fault { IfErr result (λ fault. kind_step place row.now ≡ Some fault) }
 {
     if place == 0 {
@@ -58,7 +59,8 @@ fn known_kind(place: usize, row: &Fields) -> Result<RecordKind, RecordFault>
 
 /// The kind of a record that is sound among those before it.
 fn sound_kind(register: &Register, row: &Fields) -> Result<RecordKind, RecordFault>
-    ensures sound { IfOk result (λ kind. (fault_of register.now row.now ≡ None) × (is_kind kind row.now ≡ true)) }
+    ensures sound { IfOk result (λ kind.
+        (fault_of register.now row.now ≡ None) × (is_kind kind row.now ≡ true)) }
     ensures fault { IfErr result (λ fault. fault_of register.now row.now ≡ Some fault) }
 {
     if register.has_ended() {
@@ -88,7 +90,8 @@ fn bad(row: usize, fault: RecordFault) -> CaseFault
 /// The records, each of which is sound among those before it.
 fn read_rows(alloc: Global, rows: &[Fields]) -> Result<Register<'_>, CaseFault>
     requires { length rows.now < 2 ^ 31 }
-    ensures sound { IfOk result (λ register. (register ≡ rows.now) × (first_fault rows.now ≡ missing_end rows.now)) }
+    ensures sound { IfOk result (λ register.
+        (register ≡ rows.now) × (first_fault rows.now ≡ missing_end rows.now)) }
     ensures fault { IfErr result (λ fault. IsFault fault (first_fault rows.now)) }
 {
     let mut register = Register::make(alloc);

@@ -293,7 +293,9 @@ impl<'a> Register<'a> {
 
     /// Whether each scenario has the paths of all instruments.
     fn has_all_paths(&self) -> bool
-        ensures { result ≡ list_all (λ k. list_all (has_path self.now k) (of_kind Instrument self.now)) (of_kind Scenario self.now) }
+        ensures { result
+            ≡ list_all (λ k. list_all (has_path self.now k) (of_kind Instrument self.now))
+            (of_kind Scenario self.now) }
     {
         for row in &self.rows {
             if is_kind(RecordKind::Scenario, row) && !self.has_paths(row) {

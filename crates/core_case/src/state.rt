@@ -27,7 +27,8 @@ fn of_kind<'a>(
     rows: &[&'a Fields],
     kind: RecordKind,
 ) -> Result<Vec<&'a Fields>, AllocError>
-    ensures { IfOk result (λ v. map (λ r. r.now) v.items ≡ of_kind kind (map (λ r. r.now) rows.now)) }
+    ensures { IfOk result (λ v.
+        map (λ r. r.now) v.items ≡ of_kind kind (map (λ r. r.now) rows.now)) }
 {
     let mut found = Vec::new(alloc);
     for row in rows {
@@ -40,7 +41,8 @@ fn of_kind<'a>(
 
 /// The records of positions and of collateral, in order.
 fn line_records<'a>(alloc: Global, rows: &[&'a Fields]) -> Result<Vec<&'a Fields>, AllocError>
-    ensures { IfOk result (λ v. map (λ r. r.now) v.items ≡ line_records (map (λ r. r.now) rows.now)) }
+    ensures { IfOk result (λ v.
+        map (λ r. r.now) v.items ≡ line_records (map (λ r. r.now) rows.now)) }
 {
     let mut found = Vec::new(alloc);
     for row in rows {
@@ -62,8 +64,10 @@ fn numbered<'a>(
     mut names: IndexSet<&'a [u8]>,
     rows: &[&'a Fields],
 ) -> Result<NameNumbers<'a>, AllocError>
-    requires { AllPairs (λ x y. x ≢ y) (map (λ k. k.now) names.keys ++ names_in (map (λ r. r.now) rows.now)) }
-    ensures { IfOk result (λ numbers. map (λ k. k.now) numbers.names.keys ≡ map (λ k. k.now) names.entry.keys ++ names_in (map (λ r. r.now) rows.now)) }
+    requires { AllPairs (λ x y. x ≢ y)
+        (map (λ k. k.now) names.keys ++ names_in (map (λ r. r.now) rows.now)) }
+    ensures { IfOk result (λ numbers. map (λ k. k.now) numbers.names.keys
+        ≡ map (λ k. k.now) names.entry.keys ++ names_in (map (λ r. r.now) rows.now)) }
 {
     for row in rows {
         names.insert(row.word(1))?;
@@ -123,7 +127,8 @@ fn prices_of(
     scenario: &Fields,
     instrument: &Fields,
 ) -> Result<Vec<i64>, AllocError>
-    ensures { IfOk result (λ v. v.items ≡ prices_of register.now (field scenario.now 1) (field instrument.now 1)) }
+    ensures { IfOk result (λ v.
+        v.items ≡ prices_of register.now (field scenario.now 1) (field instrument.now 1)) }
 {
     match register.find(RecordKind::Path, scenario.word(1), instrument.word(1)) {
         Some(row) => numbers_from(alloc, row, 3),
@@ -133,7 +138,8 @@ fn prices_of(
 
 /// The holidays of a market, in order.
 fn holidays_of(alloc: Global, holidays: &[&Fields], market: &[u8]) -> Result<Vec<Date>, AllocError>
-    ensures { IfOk result (λ v. map epoch_day v.items ≡ holidays_among (map (λ r. r.now) holidays.now) market.now) }
+    ensures { IfOk result (λ v.
+        map epoch_day v.items ≡ holidays_among (map (λ r. r.now) holidays.now) market.now) }
 {
     let mut found = Vec::new(alloc);
     for row in holidays {
@@ -150,7 +156,9 @@ fn holidays(
     holidays: &[&Fields],
     markets: &[&Fields],
 ) -> Result<Vec<Vec<Date>>, AllocError>
-    ensures { IfOk result (λ v. map (λ days. map epoch_day days.items) v.items ≡ map (holidays_among (map (λ r. r.now) holidays.now)) (house_name ∷ names_in (map (λ r. r.now) markets.now))) }
+    ensures { IfOk result (λ v. map (λ days. map epoch_day days.items) v.items
+        ≡ map (holidays_among (map (λ r. r.now) holidays.now))
+        (house_name ∷ names_in (map (λ r. r.now) markets.now))) }
 {
     let mut all = Vec::new(alloc);
     all.push(holidays_of(alloc, holidays, b"HOUSE")?)?;
@@ -200,7 +208,9 @@ fn instruments(alloc: Global, rows: &[&Fields]) -> Result<Vec<Instr>, AllocError
 
 /// The market of each instrument.
 fn markets(alloc: Global, rows: &[&Fields], markets: &NameNumbers) -> Result<Vec<usize>, AllocError>
-    ensures { IfOk result (λ v. v.items ≡ map (λ r. place_of (field r 3) (map (λ k. k.now) markets.now.names.keys)) (map (λ r. r.now) rows.now)) }
+    ensures { IfOk result (λ v. v.items
+        ≡ map (λ r. place_of (field r 3) (map (λ k. k.now) markets.now.names.keys))
+        (map (λ r. r.now) rows.now)) }
 {
     let mut places = Vec::with_capacity(alloc, rows.len())?;
     for row in rows {
@@ -215,7 +225,8 @@ fn limits(
     register: &Register,
     instruments: &[&Fields],
 ) -> Result<Vec<Vec<i64>>, AllocError>
-    ensures { IfOk result (λ v. map (λ limits. limits.items) v.items ≡ map (limits_of register.now) (names_in (map (λ r. r.now) instruments.now))) }
+    ensures { IfOk result (λ v. map (λ limits. limits.items) v.items
+        ≡ map (limits_of register.now) (names_in (map (λ r. r.now) instruments.now))) }
 {
     let mut limits = Vec::with_capacity(alloc, instruments.len())?;
     for row in instruments {
@@ -231,7 +242,9 @@ fn paths(
     scenario: &Fields,
     instruments: &[&Fields],
 ) -> Result<Vec<Vec<i64>>, AllocError>
-    ensures { IfOk result (λ v. map (λ path. path.items) v.items ≡ map (prices_of register.now (field scenario.now 1)) (names_in (map (λ r. r.now) instruments.now))) }
+    ensures { IfOk result (λ v. map (λ path. path.items) v.items
+        ≡ map (prices_of register.now (field scenario.now 1))
+        (names_in (map (λ r. r.now) instruments.now))) }
 {
     let mut paths = Vec::with_capacity(alloc, instruments.len())?;
     for row in instruments {
@@ -247,7 +260,9 @@ fn prices(
     scenarios: &[&Fields],
     instruments: &[&Fields],
 ) -> Result<Vec<Vec<Vec<i64>>>, AllocError>
-    ensures { IfOk result (λ v. map (λ paths. map (λ path. path.items) paths.items) v.items ≡ map (λ k. map (prices_of register.now k) (names_in (map (λ r. r.now) instruments.now))) (names_in (map (λ r. r.now) scenarios.now))) }
+    ensures { IfOk result (λ v. map (λ paths. map (λ path. path.items) paths.items) v.items
+        ≡ map (λ k. map (prices_of register.now k) (names_in (map (λ r. r.now) instruments.now)))
+        (names_in (map (λ r. r.now) scenarios.now))) }
 {
     let mut prices = Vec::with_capacity(alloc, scenarios.len())?;
     for row in scenarios {
@@ -281,7 +296,9 @@ fn pools(alloc: Global, rows: &[&Fields]) -> Result<Vec<Pool>, AllocError>
 
 /// The member that a record states.
 fn member(row: &Fields, pools: &NameNumbers, instruments: &NameNumbers) -> Member
-    ensures { result ≡ member_among (map (λ k. k.now) pools.now.names.keys) (map (λ k. k.now) instruments.now.names.keys) row.now }
+    ensures { result
+        ≡ member_among (map (λ k. k.now) pools.now.names.keys)
+        (map (λ k. k.now) instruments.now.names.keys) row.now }
 {
     Member {
         pool: place_of(pools, row.word(1)),
@@ -297,7 +314,9 @@ fn members(
     pools: &NameNumbers,
     instruments: &NameNumbers,
 ) -> Result<Vec<Member>, AllocError>
-    ensures { IfOk result (λ v. v.items ≡ map (member_among (map (λ k. k.now) pools.now.names.keys) (map (λ k. k.now) instruments.now.names.keys)) (map (λ r. r.now) rows.now)) }
+    ensures { IfOk result (λ v. v.items
+        ≡ map (member_among (map (λ k. k.now) pools.now.names.keys)
+        (map (λ k. k.now) instruments.now.names.keys)) (map (λ r. r.now) rows.now)) }
 {
     let mut members = Vec::with_capacity(alloc, rows.len())?;
     for row in rows {
@@ -341,7 +360,9 @@ fn lines(
     rows: &[&Fields],
     instruments: &NameNumbers,
 ) -> Result<Vec<Line>, AllocError>
-    ensures { IfOk result (λ v. v.items ≡ map (line_among (map (λ k. k.now) instruments.now.names.keys)) (map (λ r. r.now) rows.now)) }
+    ensures { IfOk result (λ v. v.items
+        ≡ map (line_among (map (λ k. k.now) instruments.now.names.keys))
+        (map (λ r. r.now) rows.now)) }
 {
     let mut lines = Vec::with_capacity(alloc, rows.len())?;
     for row in rows {
@@ -364,7 +385,8 @@ fn cash_on(rows: &[&Fields], day: i64) -> i64
 
 /// The fixed cash of the house days 0 to the last.
 fn cash(alloc: Global, rows: &[&Fields], last: u8) -> Result<Vec<i64>, AllocError>
-    ensures { IfOk result (λ v. v.items ≡ map (λ t. cash_among (map (λ r. r.now) rows.now) (pos t)) (below (suc last))) }
+    ensures { IfOk result (λ v.
+        v.items ≡ map (λ t. cash_among (map (λ r. r.now) rows.now) (pos t)) (below (suc last))) }
 {
     let mut cash = Vec::with_capacity(alloc, last as usize + 1)?;
     for t in 0..last as usize + 1 {
@@ -391,7 +413,8 @@ fn names_of_kind<'a>(
     kind: RecordKind,
 ) -> Result<NameNumbers<'a>, AllocError>
     requires { AllPairs (λ x y. x ≢ y) (declared_names kind register.now) }
-    ensures { IfOk result (λ numbers. map (λ k. k.now) numbers.names.keys ≡ declared_names kind register.now) }
+    ensures { IfOk result (λ numbers.
+        map (λ k. k.now) numbers.names.keys ≡ declared_names kind register.now) }
 {
     let rows = rows_of_kind(alloc, register, kind)?;
     numbered(IndexSet::new(alloc), &rows)
@@ -403,7 +426,8 @@ fn names_of_markets<'a>(
     register: &Register<'a>,
 ) -> Result<NameNumbers<'a>, AllocError>
     requires { AllPairs (λ x y. x ≢ y) (market_names register.now) }
-    ensures { IfOk result (λ numbers. map (λ k. k.now) numbers.names.keys ≡ market_names register.now) }
+    ensures { IfOk result (λ numbers.
+        map (λ k. k.now) numbers.names.keys ≡ market_names register.now) }
 {
     let rows = rows_of_kind(alloc, register, RecordKind::Market)?;
     numbered(house_alone(alloc)?, &rows)
@@ -411,7 +435,8 @@ fn names_of_markets<'a>(
 
 /// The holidays of the house and of each market of a register.
 fn book_holidays(alloc: Global, register: &Register) -> Result<Vec<Vec<Date>>, AllocError>
-    ensures { IfOk result (λ v. map (λ days. map epoch_day days.items) v.items ≡ (case_of register.now).holidays) }
+    ensures { IfOk result (λ v.
+        map (λ days. map epoch_day days.items) v.items ≡ (case_of register.now).holidays) }
 {
     let holiday_rows = rows_of_kind(alloc, register, RecordKind::Holiday)?;
     let market_rows = rows_of_kind(alloc, register, RecordKind::Market)?;
@@ -439,7 +464,8 @@ fn book_markets(alloc: Global, register: &Register) -> Result<Vec<usize>, AllocE
 
 /// The limits of each instrument of a register.
 fn book_limits(alloc: Global, register: &Register) -> Result<Vec<Vec<i64>>, AllocError>
-    ensures { IfOk result (λ v. map (λ limits. limits.items) v.items ≡ (case_of register.now).limits) }
+    ensures { IfOk result (λ v.
+        map (λ limits. limits.items) v.items ≡ (case_of register.now).limits) }
 {
     let rows = rows_of_kind(alloc, register, RecordKind::Instrument)?;
     limits(alloc, register, &rows)
@@ -476,7 +502,8 @@ fn book_scenarios(alloc: Global, register: &Register) -> Result<Vec<Name>, Alloc
 
 /// The prices of each scenario and instrument of a register.
 fn book_prices(alloc: Global, register: &Register) -> Result<Vec<Vec<Vec<i64>>>, AllocError>
-    ensures { IfOk result (λ v. map (λ paths. map (λ path. path.items) paths.items) v.items ≡ (case_of register.now).prices) }
+    ensures { IfOk result (λ v. map (λ paths. map (λ path. path.items) paths.items) v.items
+        ≡ (case_of register.now).prices) }
 {
     let scenario_rows = rows_of_kind(alloc, register, RecordKind::Scenario)?;
     let instrument_rows = rows_of_kind(alloc, register, RecordKind::Instrument)?;

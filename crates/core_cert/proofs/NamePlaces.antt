@@ -1,11 +1,9 @@
 -- The place of words among keys that are seen by their words.
-use Rattle.std.proofs.Common.{◌≡◌, refl, sym, ◌∙◌, ap, ℕ, ◌+◌, Bool, true, false, ◌&&◌, ◌||◌, cond, ltb, not, List, [], ◌∷◌, length, map, position, Some, None, Bor, arith}
+use Rattle.std.proofs.Common.{◌≡◌, sym, ◌∙◌, ap, ℕ, Bool, ◌&&◌, not, List, length, map, position, Some, None}
 use Rattle.std.specs.Str.{bytes_eq}
-use Rattle.std.specs.List.{list_any, prefix_len, position_or_len}
-use Rattle.std.proofs.lemmas.Bool.Decides.{nat_tests}
-use Rattle.std.proofs.lemmas.List.Sums.{prefix_len-le-length}
+use Rattle.std.specs.List.{prefix_len, position_or_len}
 use Rattle.core_sums.specs.Places.{below}
-use Rattle.core_rows.specs.Names.{Record, field, place_of}
+use Rattle.core_rows.specs.Names.{Record, field}
 use Rattle.core_rows.proofs.NamePlaces.{position-here, position-past, prefix_len-map}
 use Rattle.core_case.specs.View.{CaseView}
 use Rattle.core_model.specs.Closing.{line_count}

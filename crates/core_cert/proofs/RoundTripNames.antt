@@ -1,19 +1,17 @@
 -- The places of names and of lines.
-use Rattle.std.proofs.Common.{◌≡◌, ◌≢◌, ◌∷◌, ◌∙◌, [], ℕ, ◌<◌, List, length, map, get_or, true, false, refl, sym, ap, inl, inr, arith, codes}
+use Rattle.std.proofs.Common.{◌≡◌, ◌≢◌, ◌∷◌, ◌∙◌, [], ℕ, ◌<◌, List, length, get_or, true, false, refl, sym, ap, inl, inr, arith}
 use Rattle.std.specs.List.{AllPairs, list_any}
 use Rattle.std.specs.Str.{bytes_eq}
-use Rattle.std.proofs.lemmas.Bool.{and_from, and_parts, cases_order, false_from_ne_true, false≢true}
-use Rattle.std.proofs.lemmas.List.{get_or-map, length-map, map-id}
+use Rattle.std.proofs.lemmas.Bool.{and_from, and_parts, false_from_ne_true}
+use Rattle.std.proofs.lemmas.List.{map-id}
 use Rattle.std.proofs.lemmas.List.Folds.{list_any_at}
 use Rattle.std.proofs.lemmas.List.Sums.{position_or_len_is}
 use Rattle.std.proofs.lemmas.Slice.Eq.{bytes_eq-Decides}
 use Rattle.core_sums.specs.Places.{below, row_at}
 use Rattle.core_sums.proofs.Lists.{get_or-below, length-below}
 use Rattle.core_rows.specs.Names.{Record, place_of}
-use Rattle.core_case.specs.View.{CaseView, instrument, instrument_of, line, no_instrument, no_line}
+use Rattle.core_case.specs.View.{CaseView, instrument, instrument_of, line, no_line}
 use Rattle.core_case.specs.Kept.{IsCase}
-use Rattle.core_case.specs.declared.parts.Side.{Side}
-use Rattle.core_case.specs.declared.parts.Side.TheVariants.{Position, Collateral}
 use Rattle.core_model.specs.Closing.{line_count}
 use Rattle.core_cert.specs.Written.{side_word}
 use Rattle.core_cert.specs.Faults.{is_line_of, line_named}

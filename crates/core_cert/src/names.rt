@@ -89,7 +89,8 @@ fn pool_names(alloc: Global, case: &Case) -> Result<Vec<Name>, AllocError>
 impl NameLists {
     /// The names of a case.
     pub(crate) fn of_case(alloc: Global, case: &Case) -> Result<NameLists, AllocError>
-        ensures instruments { IfOk result (λ lists. lists.instruments.items ≡ instrument_names case.now) }
+        ensures instruments { IfOk result (λ lists.
+            lists.instruments.items ≡ instrument_names case.now) }
         ensures scenarios { IfOk result (λ lists. lists.scenarios.items ≡ case.now.scenarios) }
         ensures pools { IfOk result (λ lists. lists.pools.items ≡ pool_names case.now) }
     {

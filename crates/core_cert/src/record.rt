@@ -38,7 +38,8 @@ pub(crate) fn put_number(
 ) -> Result<(), AllocError>
     requires word { IsTrue (is_plain_word word.now) }
     requires number { IsKept number }
-    ensures { OnOk result (out.new.items ≡ out.old.items ++ row_text (word_record word.now number)) }
+    ensures { OnOk result (out.new.items
+        ≡ out.old.items ++ row_text (word_record word.now number)) }
 {
     let mut fields = Fields::make(alloc);
     fields.push(word)?;
@@ -57,7 +58,8 @@ pub(crate) fn put_day(
 ) -> Result<(), AllocError>
     requires word { IsTrue (is_plain_word word.now) }
     requires number { IsKept number }
-    ensures { OnOk result (out.new.items ≡ out.old.items ++ rows_text (day_record word.now name day number)) }
+    ensures { OnOk result (out.new.items
+        ≡ out.old.items ++ rows_text (day_record word.now name day number)) }
 {
     if number == 0 {
         return Ok(());
@@ -99,7 +101,8 @@ pub(crate) fn put_amount(
 ) -> Result<(), AllocError>
     requires line { l < length case.now.lines }
     requires amount { IsKept amount }
-    ensures { OnOk result (out.new.items ≡ out.old.items ++ rows_text (amount_record case.now l day amount)) }
+    ensures { OnOk result (out.new.items
+        ≡ out.old.items ++ rows_text (amount_record case.now l day amount)) }
 {
     if amount == 0 {
         return Ok(());
@@ -120,7 +123,8 @@ pub(crate) fn put_full(
 ) -> Result<(), AllocError>
     requires line { l < length case.now.lines }
     requires weight { IsKept weight }
-    ensures { OnOk result (out.new.items ≡ out.old.items ++ rows_text (full_record case.now l weight)) }
+    ensures { OnOk result (out.new.items
+        ≡ out.old.items ++ rows_text (full_record case.now l weight)) }
 {
     if weight == 0 {
         return Ok(());

@@ -26,7 +26,9 @@ fn put(numbers: &mut Numbers, place: u128, number: i128)
 
 /// Puts the number of a record at its place, where the record is of the kind.
 fn put_of_kind(numbers: &mut Numbers, names: &CaseNames, kind: RecordKind, row: &Fields)
-    ensures { numbers.new ≡ (if is_kind kind row.now then slice_set numbers.old (place_in names.now kind row.now) (last_number row.now) else numbers.old) }
+    ensures { numbers.new
+        ≡ (if is_kind kind row.now then slice_set numbers.old (place_in names.now kind row.now)
+        (last_number row.now) else numbers.old) }
 {
     if is_kind(kind, row) {
         put(numbers, names.place(kind, row), last_number(row));

@@ -42,7 +42,8 @@ pub(crate) fn is_refusing(rows: &[Fields]) -> bool
 
 /// The kind of a record, where so many came before: the first is `cert`, and each is of some kind.
 fn known_kind(place: usize, row: &Fields) -> Result<RecordKind, RecordFault>
-    ensures known { IfOk result (λ kind. (kind_step place row.now ≡ None) × (kind_of row.now ≡ Some kind)) }
+    ensures known { IfOk result (λ kind.
+        (kind_step place row.now ≡ None) × (kind_of row.now ≡ Some kind)) }
     ensures fault { IfErr result (λ fault. kind_step place row.now ≡ Some fault) }
 {
     if place == 0 {

@@ -45,7 +45,8 @@ fn put_line_amounts(
 ) -> Result<(), AllocError>
     requires line { l < length case.now.lines }
     requires fits { CalendarFits case.now calendar.now }
-    ensures { OnOk result (out.new.items ≡ out.old.items ++ rows_text (line_amounts case.now calendar.now l)) }
+    ensures { OnOk result (out.new.items
+        ≡ out.old.items ++ rows_text (line_amounts case.now calendar.now l)) }
 {
     let horizon = case.horizon();
     for u in 1..=horizon {
@@ -63,7 +64,8 @@ fn put_amounts(
     calendar: &Calendar,
 ) -> Result<(), AllocError>
     requires { CalendarFits case.now calendar.now }
-    ensures { OnOk result (out.new.items ≡ out.old.items ++ rows_text (amount_records case.now calendar.now)) }
+    ensures { OnOk result (out.new.items
+        ≡ out.old.items ++ rows_text (amount_records case.now calendar.now)) }
 {
     for l in 0..case.lines() {
         put_line_amounts(alloc, out, case, calendar, l)?;
@@ -81,7 +83,8 @@ fn put_scenario_days(
 ) -> Result<(), AllocError>
     requires scenario { k < length case.now.scenarios }
     requires fits { WeightsFit case.now weights.now }
-    ensures { OnOk result (out.new.items ≡ out.old.items ++ rows_text (scenario_days case.now weights.now k)) }
+    ensures { OnOk result (out.new.items
+        ≡ out.old.items ++ rows_text (scenario_days case.now weights.now k)) }
 {
     let last = case.last();
     for t in 0..=last {
@@ -99,7 +102,8 @@ fn put_scenarios(
     weights: &Weights,
 ) -> Result<(), AllocError>
     requires { WeightsFit case.now weights.now }
-    ensures { OnOk result (out.new.items ≡ out.old.items ++ rows_text (scenario_records case.now weights.now)) }
+    ensures { OnOk result (out.new.items
+        ≡ out.old.items ++ rows_text (scenario_records case.now weights.now)) }
 {
     for k in 0..case.scenarios() {
         put_scenario_days(alloc, out, case, weights, k)?;
@@ -120,7 +124,9 @@ fn put_closing_days(
     requires word { IsTrue (is_plain_word word.now) }
     requires row { row * case.now.horizon + case.now.horizon ≤ length numbers.now }
     requires kept { All IsKept numbers.now }
-    ensures { OnOk result (out.new.items ≡ out.old.items ++ rows_text (closing_days case.now.horizon word.now name (λ u. at numbers.now (row * case.now.horizon + (u - 1))))) }
+    ensures { OnOk result (out.new.items
+        ≡ out.old.items ++ rows_text (closing_days case.now.horizon word.now name
+        (λ u. at numbers.now (row * case.now.horizon + (u - 1))))) }
 {
     let horizon = case.horizon();
     for u in 1..=horizon {
@@ -138,7 +144,8 @@ fn put_limits(
     weights: &Weights,
 ) -> Result<(), AllocError>
     requires { WeightsFit case.now weights.now }
-    ensures { OnOk result (out.new.items ≡ out.old.items ++ rows_text (limit_records case.now weights.now)) }
+    ensures { OnOk result (out.new.items
+        ≡ out.old.items ++ rows_text (limit_records case.now weights.now)) }
 {
     for i in 0..case.instruments() {
         let name = case.instrument(i).name;
@@ -155,7 +162,8 @@ fn put_pools(
     weights: &Weights,
 ) -> Result<(), AllocError>
     requires { WeightsFit case.now weights.now }
-    ensures { OnOk result (out.new.items ≡ out.old.items ++ rows_text (pool_records case.now weights.now)) }
+    ensures { OnOk result (out.new.items
+        ≡ out.old.items ++ rows_text (pool_records case.now weights.now)) }
 {
     for p in 0..case.pools() {
         let name = case.pool(p).name;
@@ -172,7 +180,8 @@ fn put_fulls(
     weights: &Weights,
 ) -> Result<(), AllocError>
     requires { WeightsFit case.now weights.now }
-    ensures { OnOk result (out.new.items ≡ out.old.items ++ rows_text (full_records case.now weights.now)) }
+    ensures { OnOk result (out.new.items
+        ≡ out.old.items ++ rows_text (full_records case.now weights.now)) }
 {
     for l in 0..case.lines() {
         put_full(alloc, out, case, l, number_at(&weights.full, l))?;
@@ -188,7 +197,8 @@ fn put_constraints(
     weights: &Weights,
 ) -> Result<(), AllocError>
     requires { WeightsFit case.now weights.now }
-    ensures { OnOk result (out.new.items ≡ out.old.items ++ rows_text (constraint_records case.now weights.now)) }
+    ensures { OnOk result (out.new.items
+        ≡ out.old.items ++ rows_text (constraint_records case.now weights.now)) }
 {
     put_limits(alloc, out, case, weights)?;
     put_pools(alloc, out, case, weights)?;
@@ -207,7 +217,8 @@ fn put_closing(
     requires calendar { CalendarFits case.now calendar.now }
     requires loss { IsKept loss }
     requires weights { WeightsFit case.now weights.now }
-    ensures { OnOk result (out.new.items ≡ out.old.items ++ rows_text (closing_records case.now calendar.now loss weights.now)) }
+    ensures { OnOk result (out.new.items
+        ≡ out.old.items ++ rows_text (closing_records case.now calendar.now loss weights.now)) }
 {
     put_number(alloc, out, b"closes", calendar.den)?;
     put_amounts(alloc, out, case, calendar)?;
@@ -226,7 +237,8 @@ fn put_refusal(
     weights: &Weights,
 ) -> Result<(), AllocError>
     requires { WeightsFit case.now weights.now }
-    ensures { OnOk result (out.new.items ≡ out.old.items ++ rows_text (refusing_records case.now weights.now)) }
+    ensures { OnOk result (out.new.items
+        ≡ out.old.items ++ rows_text (refusing_records case.now weights.now)) }
 {
     put_word(alloc, out, b"cannot")?;
     put_number(alloc, out, b"weights", weights.den)?;

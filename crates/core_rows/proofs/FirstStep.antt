@@ -1,5 +1,5 @@
 -- The first fault of a list of steps, step by step.
-use Rattle.std.proofs.Common.{◌≡◌, refl, sym, ◌∙◌, ap, ℕ, suc, List, [], ◌∷◌, length, Bool, true, false, not, ◌==◌, Option, Some, None, eq-eqb}
+use Rattle.std.proofs.Common.{◌≡◌, refl, sym, ◌∙◌, ap, suc, List, [], ◌∷◌, length, Bool, true, false, not, Option, Some, None, eq-eqb}
 use Rattle.std.proofs.lemmas.Bool.{ne_eqb}
 use Rattle.std.specs.Option.{option_or}
 use Rattle.core_rows.specs.Names.{Record}

@@ -1,6 +1,5 @@
 // The faults of a record's fields, by the forms that they are to have.
 ghost use Rattle.std.specs.Prelude.{◌≡◌, Some, None, IfOk, IfErr, drop, length, suc};
-ghost use Rattle.core_rows.specs.Names.{field};
 ghost use Rattle.core_rows.specs.Steps.{by_form, fault_unless, fields_fault, first_of};
 
 use crate::fields::Fields;
@@ -50,15 +49,12 @@ pub fn fault_unless<X: Copy>(passes: bool, fault: X) -> Option<X>
 /// The first fault of fields that are out of their ranges, or as an error the first of fields that have not their forms.
 fn ranges_fault<S: Shape>(shape: &S, row: &Fields) -> Result<Option<S::Fault>, S::Fault>
     requires { length row.now ≡ suc (length (S.forms shape.now)) }
-    ensures form {
-        IfOk result (λ _. first_of (by_form S.form_fault (S.forms shape.now) (drop 1 row.now)) ≡ None)
-    }
-    ensures range {
-        IfOk result (λ fault. first_of (by_form S.range_fault (S.forms shape.now) (drop 1 row.now)) ≡ fault)
-    }
-    ensures fault {
-        IfErr result (λ fault. first_of (by_form S.form_fault (S.forms shape.now) (drop 1 row.now)) ≡ Some fault)
-    }
+    ensures form { IfOk result (λ _.
+        first_of (by_form S.form_fault (S.forms shape.now) (drop 1 row.now)) ≡ None) }
+    ensures range { IfOk result (λ fault.
+        first_of (by_form S.range_fault (S.forms shape.now) (drop 1 row.now)) ≡ fault) }
+    ensures fault { IfErr result (λ fault.
+        first_of (by_form S.form_fault (S.forms shape.now) (drop 1 row.now)) ≡ Some fault) }
 {
     let mut first = None;
     for i in 1..row.len() {
@@ -71,9 +67,8 @@ fn ranges_fault<S: Shape>(shape: &S, row: &Fields) -> Result<Option<S::Fault>, S
 /// The first fault of the fields of a record: `miscounted` where their number is not the shape's, else that of the first
 /// field that has not its form, else that of the first that is out of its range.
 pub fn fields_fault<S: Shape>(shape: &S, row: &Fields, miscounted: S::Fault) -> Option<S::Fault>
-    ensures {
-        result ≡ fields_fault miscounted S.form_fault S.range_fault (S.forms shape.now) row.now
-    }
+    ensures { result
+        ≡ fields_fault miscounted S.form_fault S.range_fault (S.forms shape.now) row.now }
 {
     if row.len() == 0 || row.len() - 1 != shape.count() {
         return Some(miscounted);

@@ -1,4 +1,4 @@
-use Rattle.std.proofs.Common.{◌≡◌, ◌∙◌, sym, suc, length, arith, Some}
+use Rattle.std.proofs.Common.{◌≡◌, sym, suc, length, arith, Some}
 use Rattle.core_rows.proofs.FirstStep.{count-fails, count-passes, first_of-fails, first_of-last, first_of-passes}
 use Rattle.core_rows.proofs.shape.fields_fault.Goals as goal
 use Rattle.core_rows.proofs.shape.fields_fault.Goals.{then-len-eq0-via-then-len-eq0, then-len-eq0-via-else-len-eq0+then-len-count}

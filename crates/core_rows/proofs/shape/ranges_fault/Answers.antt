@@ -1,4 +1,4 @@
-use Rattle.std.proofs.Common.{◌≡◌, ◌<◌, ◌≤◌, ◌∙◌, drop, length, arith, Some}
+use Rattle.std.proofs.Common.{◌≡◌, ◌<◌, ◌≤◌, drop, length, arith, Some}
 use Rattle.core_rows.specs.Steps.{by_form, first_of}
 use Rattle.core_rows.proofs.FieldWalk.{fault-here, fault-kept, fault-later, fault-past, kept-past}
 use Rattle.core_rows.proofs.OneByOne.{error-same}
