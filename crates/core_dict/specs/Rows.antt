@@ -94,3 +94,11 @@ pub record IsStartRow {E : Type 0} (read : E → Fraction) (p : ProgrammeView) (
 pub record AreStartRows {E : Type 0} (read : E → Fraction) (p : ProgrammeView) (xs : List (Slot E)) : Type 0 where
   pub rows : length xs ≡ height p
   pub each : (k : ℕ) (x : Slot E) → k < length xs → IsStartRow read p k (get_or xs k x)
+
+-- ---- another width
+-- the same row at another width, with room of its own
+pub record IsWidened {A B : Type 0} (from : A → Fraction) (to : B → Fraction) (x : Slot A) (y : Slot B)
+    : Type 0 where
+  pub entries : map to y.row.entries.items ≡ map from x.row.entries.items
+  pub value : to y.row.value ≡ from x.row.value
+  pub room : width y.spare ≡ width x.row

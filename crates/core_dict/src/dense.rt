@@ -7,6 +7,7 @@ ghost use Rattle.core_dict.specs.Variables.{HaveVariables};
 use crate::fill::{costs, room, slots, variables, zeros};
 use crate::row::{Row, Slot};
 use crate::steps::{exchange_all, make_others, other_entries, own_row};
+use crate::widen::{wide_numbers, wide_slots};
 use crate::{PivotFault, Programme, Store, Widen};
 use exact_frac::{Exact, Frac64, Frac128, Left};
 use std::alloc::{AllocError, Global};
@@ -138,4 +139,18 @@ impl<E: Exact> Store<E> for Dense<E> {
     }
 
     ghost is_dictionary = { λ s. dense_is_dictionary E.value s };
+}
+
+impl Widen<Dense<Frac128>> for Dense<Frac64> {
+    fn widen(&self, alloc: Global) -> Result<Dense<Frac128>, AllocError> {
+        let cols = self.nonbasic.len();
+        Ok(Dense {
+            slots: wide_slots(alloc, &self.slots)?,
+            costs: wide_numbers(alloc, &self.costs)?,
+            basic: Vec::from_slice(alloc, &self.basic)?,
+            nonbasic: Vec::from_slice(alloc, &self.nonbasic)?,
+            own: room(alloc, cols)?,
+            spare_costs: zeros(alloc, cols)?,
+        })
+    }
 }

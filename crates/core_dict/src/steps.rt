@@ -12,8 +12,8 @@ use crate::row::{Row, Slot};
 use exact_frac::{Exact, Left};
 use std::mem;
 
-// Whether a number is 0.
-fn is_zero<E: Exact>(x: E) -> bool
+/// Whether a number is 0.
+pub fn is_zero<E: Exact>(x: E) -> bool
     ensures { IsTrue result ↔ (E.value x ≡ zero_q) }
 {
     x.sign() == 0
