@@ -42,10 +42,13 @@ impl<E: Exact> Dense<E> {
         requires col_in { col < length self.old.nonbasic.items }
         requires entry { (dense_of E.value self.old).entry row col ≢ zero_q }
         ensures same { dense_of E.value self.new ≡ dense_of E.value self.old }
-        ensures prepared { OnOk result (IsPrepared E.value row col self.new.slots.items self.new.costs.items
+        ensures prepared { OnOk result
+            (IsPrepared E.value row col self.new.slots.items self.new.costs.items
             self.new.basic.items self.new.nonbasic.items self.new.own self.new.spare_costs.items) }
-        ensures fits { OnOk result (¬ (PivotLeaves (unsigned_abs E.MOST) (dense_of E.value self.old) row col)) }
-        ensures left { OnErr result (PivotLeaves (unsigned_abs E.MOST) (dense_of E.value self.old) row col) }
+        ensures fits { OnOk result
+            (¬ (PivotLeaves (unsigned_abs E.MOST) (dense_of E.value self.old) row col)) }
+        ensures left { OnErr result
+            (PivotLeaves (unsigned_abs E.MOST) (dense_of E.value self.old) row col) }
     {
         let slot = &self.slots[row];
         let pivot = slot.row.entries[col];

@@ -22,7 +22,8 @@ impl Model for Line {
 
 impl Line {
     pub fn zeros(alloc: Global, cols: usize) -> Result<Line, AllocError>
-        ensures { IfOk result (λ r. r ≡ record { entries = replicate cols (pos 0); bound = pos 0 }) }
+        ensures { IfOk result (λ r. r
+            ≡ record { entries = replicate cols (pos 0); bound = pos 0 }) }
     {
         let kept = vec![in alloc; 0i64; cols]?;
         Ok(Line { kept, most: 0 })

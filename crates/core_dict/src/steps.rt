@@ -34,7 +34,8 @@ fn divided<E: Exact>(a: E, p: E) -> Result<E, Left>
 // a - q b, which is a where b is 0.
 fn less_times<E: Exact>(a: E, q: E, b: E) -> Result<E, Left>
     ensures exact { IfOk result (λ x. E.value x ≡ E.value a -ℚ E.value q *ℚ E.value b) }
-    ensures left { IsErr result ↔ LessTimesLeaves (unsigned_abs E.MOST) (E.value a) (E.value q) (E.value b) }
+    ensures left { IsErr result
+        ↔ LessTimesLeaves (unsigned_abs E.MOST) (E.value a) (E.value q) (E.value b) }
 {
     if is_zero(b) {
         return Ok(a);
@@ -149,8 +150,10 @@ fn other_row<E: Exact>(
     requires pivot { E.value pivot ≢ zero_q }
     ensures width { width after.new ≡ width after.old }
     ensures exact { OnOk result (IsAfter E.value (E.value pivot) col own.now before.now after.new) }
-    ensures fits { OnOk result (¬ (RowLeaves (unsigned_abs E.MOST) E.value (E.value pivot) col own.now before.now)) }
-    ensures left { OnErr result (RowLeaves (unsigned_abs E.MOST) E.value (E.value pivot) col own.now before.now) }
+    ensures fits { OnOk result
+        (¬ (RowLeaves (unsigned_abs E.MOST) E.value (E.value pivot) col own.now before.now)) }
+    ensures left { OnErr result
+        (RowLeaves (unsigned_abs E.MOST) E.value (E.value pivot) col own.now before.now) }
 {
     other_entries(
         &before.entries,
@@ -171,8 +174,10 @@ fn make<E: Exact>(slot: &mut Slot<E>, own: &Row<E>, pivot: E, col: usize) -> Res
     ensures row { slot.new.row ≡ slot.old.row }
     ensures wide { IsWide (width own.now) slot.new }
     ensures exact { OnOk result (IsMade E.value (E.value pivot) col own.now slot.new) }
-    ensures fits { OnOk result (¬ (RowLeaves (unsigned_abs E.MOST) E.value (E.value pivot) col own.now slot.old.row)) }
-    ensures left { OnErr result (RowLeaves (unsigned_abs E.MOST) E.value (E.value pivot) col own.now slot.old.row) }
+    ensures fits { OnOk result
+        (¬ (RowLeaves (unsigned_abs E.MOST) E.value (E.value pivot) col own.now slot.old.row)) }
+    ensures left { OnErr result
+        (RowLeaves (unsigned_abs E.MOST) E.value (E.value pivot) col own.now slot.old.row) }
 {
     if is_zero(slot.row.entries[col]) {
         return Ok(());
@@ -196,9 +201,11 @@ pub fn make_others<E: Exact>(
     ensures exact { OnOk result ((k : ℕ) (x : _) → k < length slots.new → k ≢ row
         → IsMade E.value (E.value pivot) col own.now (get_or slots.new k x)) }
     ensures fits { OnOk result ((k : ℕ) (x : _) → k < length slots.old → k ≢ row
-        → ¬ (RowLeaves (unsigned_abs E.MOST) E.value (E.value pivot) col own.now (get_or slots.old k x).row)) }
+        → ¬ (RowLeaves (unsigned_abs E.MOST) E.value (E.value pivot) col own.now
+        (get_or slots.old k x).row)) }
     ensures left { OnErr result ((k : ℕ) × (k < length slots.old) × (k ≢ row) × ((x : _)
-        → RowLeaves (unsigned_abs E.MOST) E.value (E.value pivot) col own.now (get_or slots.old k x).row)) }
+        → RowLeaves (unsigned_abs E.MOST) E.value (E.value pivot) col own.now
+        (get_or slots.old k x).row)) }
 {
     for i in 0..slots.len() {
         if i != row {

@@ -74,8 +74,10 @@ pub trait Store<E: Exact>: Sized + Drop {
         requires row_in { row < (dictionary self.old).rows }
         requires col_in { col < (dictionary self.old).cols }
         requires entry { (dictionary self.old).entry row col ≢ zero_q }
-        ensures pivoted { OnOk result (dictionary self.new ≡ pivot_of (dictionary self.old) row col) }
-        ensures fits { OnOk result (¬ (PivotLeaves (unsigned_abs E.MOST) (dictionary self.old) row col)) }
+        ensures pivoted { OnOk result
+            (dictionary self.new ≡ pivot_of (dictionary self.old) row col) }
+        ensures fits { OnOk result
+            (¬ (PivotLeaves (unsigned_abs E.MOST) (dictionary self.old) row col)) }
         ensures left { result ≡ Err PivotFault.Left
             → PivotLeaves (unsigned_abs E.MOST) (dictionary self.old) row col }
         ensures memory { result ≡ Err PivotFault.NoMemory → TAKES_MEMORY ≡ true }
