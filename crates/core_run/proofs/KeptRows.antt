@@ -1,0 +1,71 @@
+-- What is kept of the rows after one more.
+use Rattle.std.proofs.Common.{◌≡◌, ap, sym, ◌∙◌, ℕ, ◌+◌, ◌<◌, ◌≤◌, Bool, true, false, Option, None, Some, subst}
+use Rattle.std.proofs.Common.{ap₂, arith}
+use Rattle.fractions.specs.Fraction.{Fraction}
+use Rattle.exact_frac.specs.Value128.{value128}
+use Rattle.core_dict.specs.Dictionary.{Dictionary, IsDictionary}
+use Rattle.core_rules.specs.Candidates.{Candidate, Preference, RuleView, IsRanked, pick}
+use Rattle.core_rules.specs.Kept.{candidate_of}
+use Rattle.core_rules.specs.declared.cand.Cand.{Cand}
+use Rattle.core_run.specs.Choice.{is_negative, row_candidate}
+use Rattle.core_run.specs.Kept.{IsPickedAt, HasKeptRow}
+use Rattle.core_run.specs.Ranked.{AreRanked}
+use Rattle.core_run.specs.declared.leaving.KeptRow.{KeptRow}
+use Rattle.core_run.proofs.Picks.{none_more, passed_over, first_picked, preferred, not_preferred}
+
+-- what the test of a fraction says of another that is the same
+pub tested : (q r : Fraction) (t b : Bool) → t ≡ is_negative q → q ≡ r → t ≡ b → is_negative r ≡ b
+tested q r t b e f h = ap is_negative (sym f) ∙ sym e ∙ h
+
+-- a variable and a value are those of a row
+pub row_is : (d : Dictionary) (i : ℕ) (x : Cand) (q : Fraction) → x.var ≡ d.basic i → value128 x.value ≡ q
+    → q ≡ d.value i → candidate_of x ≡ row_candidate d i
+row_is d i x q e f h =
+    let make : ℕ → Fraction → Candidate = λ v q. record { var = v; value = q } in ap₂ make e (f ∙ h)
+
+module _ (better : Preference) (d : Dictionary) (n : ℕ) where
+  abbrev passes : ℕ → Bool
+  passes i = is_negative (d.value i)
+
+  -- a row whose value is not negative changes nothing
+  pub row_passed : (kept : Option KeptRow) → is_negative (d.value n) ≡ false → HasKeptRow better d n kept
+      → HasKeptRow better d (n + 1) kept
+  row_passed None e h = none_more better passes (row_candidate d) n e h
+  row_passed (Some k) e h = passed_over better passes (row_candidate d) n k.row (candidate_of k.cand) e h
+
+  -- the first one is kept
+  pub row_first : (kept : Option KeptRow) (x : Cand) → is_negative (d.value n) ≡ true
+      → candidate_of x ≡ row_candidate d n → HasKeptRow better d n kept → kept ≡ None
+      → IsPickedAt better passes (row_candidate d) (n + 1) n (candidate_of x)
+  row_first kept x e is h f =
+      first_picked better passes (row_candidate d) n (candidate_of x) e (subst (HasKeptRow better d n) f h) is
+
+  -- what is known of one that is kept
+  pub row_at : (kept : Option KeptRow) (k : KeptRow) → HasKeptRow better d n kept → kept ≡ Some k
+      → IsPickedAt better passes (row_candidate d) n k.row (candidate_of k.cand)
+  row_at kept k h e = subst (HasKeptRow better d n) e h
+
+  module _ (kept : Option KeptRow) (k : KeptRow) (x : Cand) (e : is_negative (d.value n) ≡ true)
+      (is : candidate_of x ≡ row_candidate d n) (h : HasKeptRow better d n kept) (f : kept ≡ Some k) where
+    -- it gives way to the next one, or stays
+    pub row_taken : (b : Bool) → b ≡ better (candidate_of k.cand) (candidate_of x) → b ≡ true
+        → IsPickedAt better passes (row_candidate d) (n + 1) n (candidate_of x)
+    row_taken b t s =
+        preferred better passes (row_candidate d) n k.row (candidate_of k.cand) (candidate_of x) e
+        (row_at kept k h f) is (sym t ∙ s)
+
+    pub row_stays : (b : Bool) → b ≡ better (candidate_of k.cand) (candidate_of x) → b ≡ false
+        → IsPickedAt better passes (row_candidate d) (n + 1) k.row (candidate_of k.cand)
+    row_stays b t s =
+        not_preferred better passes (row_candidate d) n k.row (candidate_of k.cand) (candidate_of x) e
+        (row_at kept k h f) is (sym t ∙ s)
+
+-- ---- ranks
+-- the basic variables are ranked
+module _ (rule : RuleView) (d : Dictionary) (of : IsDictionary d) (ranked : AreRanked rule d) where
+  pub basic_ranked : (i : ℕ) → i < d.rows → IsRanked rule (d.basic i)
+  basic_ranked i l =
+      let n = of.variables.numbered.basic i l in ranked (d.basic i) (omega (arith, n.0)) n.1
+
+  pub var_ranked : (v i : ℕ) → v ≡ d.basic i → i < d.rows → IsRanked rule v
+  var_ranked v i e l = subst (IsRanked rule) (sym e) (basic_ranked i l)

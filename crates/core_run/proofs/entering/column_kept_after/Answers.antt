@@ -1,0 +1,60 @@
+use Rattle.std.proofs.Common.{false, true}
+use Rattle.core_dict.specs.Dictionary.{Dictionary}
+use Rattle.core_run.specs.Kept.{column_of}
+use Rattle.core_run.specs.declared.entering.KeptColumn.{KeptColumn}
+use Rattle.core_run.proofs.KeptRows.{tested}
+use Rattle.core_run.proofs.KeptColumns.{minus_not_zero, column_is, column_passed, column_first}
+use Rattle.core_run.proofs.KeptColumns.{column_taken, column_stays}
+use Rattle.core_run.proofs.entering.column_kept_after.Goals as goal
+
+pub returns-then-not-is_negative-clause-kept : goal.returns-then-not-is_negative-clause-kept
+returns-then-not-is_negative-clause-kept g c =
+    let d : Dictionary = g.D.Store.dictionary c.args.dict.now in
+    column_passed g.E.Exact.value d c.args.row c.args.col c.args.kept
+    (tested (g.E.Exact.value c.entry-entry.result) (d.entry c.args.row c.args.col) c.is_negative.result false
+    c.is_negative.ensures c.entry-entry.ensures c.if-not-is_negative.true)
+    c.requires.kept
+
+pub over-requires : goal.over-requires
+over-requires g c =
+    minus_not_zero (g.E.Exact.value c.entry-entry.result) (g.E.Exact.value c.negated.result)
+    c.is_negative.result c.is_negative.ensures c.if-not-is_negative.false c.negated.ensures
+
+pub returns-in_default-clause-kept : goal.returns-in_default-clause-kept
+returns-in_default-clause-kept g c =
+    let d : Dictionary = g.D.Store.dictionary c.args.dict.now in
+    column_first g.E.Exact.value d c.args.row c.args.col c.args.kept
+    (record { col = c.args.col; var = c.nonbasic.result; ratio = c.in_ok-over.field-0 })
+    (tested (g.E.Exact.value c.entry-entry.result) (d.entry c.args.row c.args.col) c.is_negative.result true
+    c.is_negative.ensures c.entry-entry.ensures c.if-not-is_negative.false)
+    (column_is d c.args.row c.args.col c.nonbasic.result (g.E.Exact.value c.in_ok-over.field-0)
+    (g.E.Exact.value c.cost.result) (g.E.Exact.value c.negated.result)
+    (g.E.Exact.value c.entry-entry.result) c.nonbasic.ensures c.in_ok-over.ensures.exact c.cost.ensures
+    c.negated.ensures c.entry-entry.ensures)
+    c.requires.kept c.in_default.is
+
+pub returns-then-is_before-clause-kept : goal.returns-then-is_before-clause-kept
+returns-then-is_before-clause-kept g c =
+    let d : Dictionary = g.D.Store.dictionary c.args.dict.now in
+    column_taken g.E.Exact.value d c.args.row c.args.col c.args.kept c.in-Some.held
+    (record { col = c.args.col; var = c.nonbasic.result; ratio = c.in_ok-over.field-0 })
+    (tested (g.E.Exact.value c.entry-entry.result) (d.entry c.args.row c.args.col) c.is_negative.result true
+    c.is_negative.ensures c.entry-entry.ensures c.if-not-is_negative.false)
+    (column_is d c.args.row c.args.col c.nonbasic.result (g.E.Exact.value c.in_ok-over.field-0)
+    (g.E.Exact.value c.cost.result) (g.E.Exact.value c.negated.result)
+    (g.E.Exact.value c.entry-entry.result) c.nonbasic.ensures c.in_ok-over.ensures.exact c.cost.ensures
+    c.negated.ensures c.entry-entry.ensures)
+    c.requires.kept c.in-Some.is c.is_before.result c.is_before.ensures c.if-is_before.true
+
+pub returns-else-is_before-clause-kept : goal.returns-else-is_before-clause-kept
+returns-else-is_before-clause-kept g c =
+    let d : Dictionary = g.D.Store.dictionary c.args.dict.now in
+    column_stays g.E.Exact.value d c.args.row c.args.col c.args.kept c.in-Some.held
+    (record { col = c.args.col; var = c.nonbasic.result; ratio = c.in_ok-over.field-0 })
+    (tested (g.E.Exact.value c.entry-entry.result) (d.entry c.args.row c.args.col) c.is_negative.result true
+    c.is_negative.ensures c.entry-entry.ensures c.if-not-is_negative.false)
+    (column_is d c.args.row c.args.col c.nonbasic.result (g.E.Exact.value c.in_ok-over.field-0)
+    (g.E.Exact.value c.cost.result) (g.E.Exact.value c.negated.result)
+    (g.E.Exact.value c.entry-entry.result) c.nonbasic.ensures c.in_ok-over.ensures.exact c.cost.ensures
+    c.negated.ensures c.entry-entry.ensures)
+    c.requires.kept c.in-Some.is c.is_before.result c.is_before.ensures c.if-is_before.false

@@ -1,0 +1,79 @@
+// Which column enters.
+ghost use Rattle.std.specs.Prelude.{◌≡◌, ◌+◌, ◌<◌, ◌↔◌, IfOk, IsErr, unsigned_abs};
+ghost use Rattle.core_rules.specs.Candidates.{lower_value};
+ghost use Rattle.core_run.specs.Choice.{entering_column as entering_column_of};
+ghost use Rattle.core_run.specs.Kept.{ColumnLeaves, HasKeptColumn, column_of};
+ghost use Rattle.core_run.specs.Widths.{RatioLeaves};
+
+use crate::signs::is_negative;
+use core_dict::Store;
+use exact_frac::{Exact, Left};
+use std::cmp::Ordering;
+
+/// A column that may enter, by its position from 0, with its variable and its ratio.
+#[derive(Clone, Copy)]
+pub struct KeptColumn<E: Exact> {
+    col: usize,
+    var: u32,
+    ratio: E,
+}
+
+impl<E: Exact> KeptColumn<E> {
+    // Whether the ratio is lower than the other one's, or is the same and the variable is lower.
+    fn is_before(&self, other: &KeptColumn<E>) -> bool
+        ensures { result ≡ lower_value (column_of E.value other.now) (column_of E.value self.now) }
+    {
+        match self.ratio.cmp(&other.ratio) {
+            Ordering::Less => true,
+            Ordering::Equal => self.var < other.var,
+            Ordering::Greater => false,
+        }
+    }
+}
+
+/// Of the columns with a negative entry in the row, the one with the least ratio, and of equal ones
+/// the one with the least variable; none where no entry is negative. `Left` exactly where one of
+/// the ratios leaves.
+pub fn entering_column<E: Exact, D: Store<E>>(dict: &D, row: usize) -> Result<Option<usize>, Left>
+    requires { row < (D.dictionary dict.now).rows }
+    ensures chosen { IfOk result (λ col. col ≡ entering_column_of (D.dictionary dict.now) row) }
+    ensures left { IsErr result ↔ RatioLeaves (unsigned_abs E.MOST) (D.dictionary dict.now) row }
+{
+    let mut kept = None;
+    for col in 0..dict.cols() {
+        kept = column_kept_after(dict, row, col, kept)?;
+    }
+    Ok(kept.map(|k: KeptColumn<E>| k.col))
+}
+
+// What is kept after one more column. Left exactly where its entry is negative and its ratio leaves.
+fn column_kept_after<E: Exact, D: Store<E>>(
+    dict: &D,
+    row: usize,
+    col: usize,
+    kept: Option<KeptColumn<E>>,
+) -> Result<Option<KeptColumn<E>>, Left>
+    requires row_in { row < (D.dictionary dict.now).rows }
+    requires col_in { col < (D.dictionary dict.now).cols }
+    requires kept { HasKeptColumn E.value (D.dictionary dict.now) row col kept }
+    ensures kept { IfOk result (HasKeptColumn E.value (D.dictionary dict.now) row (col + 1)) }
+    ensures left { IsErr result ↔ ColumnLeaves (unsigned_abs E.MOST) (D.dictionary dict.now) row col }
+{
+    let entry = dict.entry(row, col);
+    if !is_negative(entry) {
+        return Ok(kept);
+    }
+    let next = KeptColumn {
+        col,
+        var: dict.nonbasic(col),
+        ratio: dict.cost(col).over(entry.negated())?,
+    };
+    let Some(held) = kept else {
+        return Ok(Some(next));
+    };
+    if next.is_before(&held) {
+        Ok(Some(next))
+    } else {
+        Ok(Some(held))
+    }
+}
