@@ -4,7 +4,7 @@ use Rattle.fractions.specs.Fraction.{Fraction, zero_q, ◌/ℚ◌, neg_ℚ}
 use Rattle.fractions.proofs.Laws.{lt_q-true}
 use Rattle.fractions.proofs.Signs.{neg_above, not_zero_above}
 use Rattle.core_dict.specs.Dictionary.{Dictionary}
-use Rattle.core_rules.specs.Candidates.{Candidate, lower_value, pick}
+use Rattle.core_rules.specs.Candidates.{Candidate, lower_value}
 use Rattle.core_run.specs.Choice.{is_negative, column_candidate}
 use Rattle.core_run.specs.Kept.{IsPickedAt, HasKeptColumn, column_of}
 use Rattle.core_run.specs.declared.entering.KeptColumn.{KeptColumn}

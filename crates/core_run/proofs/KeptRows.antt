@@ -1,10 +1,10 @@
 -- What is kept of the rows after one more.
-use Rattle.std.proofs.Common.{◌≡◌, ap, sym, ◌∙◌, ℕ, ◌+◌, ◌<◌, ◌≤◌, Bool, true, false, Option, None, Some, subst}
+use Rattle.std.proofs.Common.{◌≡◌, ap, sym, ◌∙◌, ℕ, ◌+◌, ◌<◌, Bool, true, false, Option, None, Some, subst}
 use Rattle.std.proofs.Common.{ap₂, arith}
 use Rattle.fractions.specs.Fraction.{Fraction}
 use Rattle.exact_frac.specs.Value128.{value128}
 use Rattle.core_dict.specs.Dictionary.{Dictionary, IsDictionary}
-use Rattle.core_rules.specs.Candidates.{Candidate, Preference, RuleView, IsRanked, pick}
+use Rattle.core_rules.specs.Candidates.{Candidate, Preference, RuleView, IsRanked}
 use Rattle.core_rules.specs.Kept.{candidate_of}
 use Rattle.core_rules.specs.declared.cand.Cand.{Cand}
 use Rattle.core_run.specs.Choice.{is_negative, row_candidate}

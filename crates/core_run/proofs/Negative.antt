@@ -1,9 +1,9 @@
 -- The sign of a fraction tells whether it is below 0.
-use Rattle.std.proofs.Common.{◌≡◌, refl, ap, ◌∙◌, min, ltb-true, ℕ, ℤ, zero, suc, pos, negsuc, true, false, true≢false, sym}
+use Rattle.std.proofs.Common.{◌≡◌, refl, min, ltb-true, ℤ, zero, suc, pos, negsuc, true≢false, sym}
 use Rattle.std.proofs.Common.{Decides, arith, int_lt}
 use Rattle.std.specs.Int.{int_signum}
 use Rattle.std.proofs.lemmas.Bool.Decides.{same_from_decides}
-use Rattle.fractions.specs.Fraction.{Fraction, zero_q, ◌<ℚ◌, lt_q}
+use Rattle.fractions.specs.Fraction.{Fraction, zero_q}
 use Rattle.fractions.proofs.Laws.{lt_q-true}
 use Rattle.fractions.proofs.SignLaws.{signum_below}
 use Rattle.core_run.specs.Choice.{is_negative}

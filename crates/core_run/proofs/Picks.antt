@@ -1,5 +1,5 @@
 -- What is picked after one more place.
-use Rattle.std.proofs.Common.{◌≡◌, refl, sym, ◌∙◌, ap, ℕ, suc, ◌+◌, ◌<◌, Bool, true, false, cond, Option}
+use Rattle.std.proofs.Common.{◌≡◌, refl, sym, ◌∙◌, ap, ℕ, suc, ◌+◌, Bool, true, false, cond, Option}
 use Rattle.std.proofs.Common.{None, Some, arith}
 use Rattle.core_rules.specs.Candidates.{Candidate, Preference, kept_after, pick}
 use Rattle.core_run.specs.Kept.{IsPickedAt}

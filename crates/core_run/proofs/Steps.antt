@@ -9,7 +9,7 @@ use Rattle.core_dict.specs.Pivot.{pivot}
 use Rattle.core_rules.specs.Candidates.{Preference}
 use Rattle.core_run.specs.Choice.{leaving_row, entering_column}
 use Rattle.core_run.specs.Laws.{TurnSays}
-use Rattle.core_run.specs.Run.{Turn, Best, NoSolution, PivotOn, Pivots, turn_on, turn_from, after_turn, turn, next}
+use Rattle.core_run.specs.Run.{Turn, Best, NoSolution, PivotOn, Pivots, turn_on, turn_from, after_turn, turn}
 use Rattle.core_run.specs.Steps.{IsStep, RatiosLeave, HasPivoted}
 use Rattle.core_run.specs.Widths.{RatioLeaves, TurnLeaves}
 use Rattle.core_run.specs.declared.turn.Step.{Step}

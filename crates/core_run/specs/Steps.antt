@@ -11,9 +11,13 @@ use Rattle.core_run.specs.Run.{Turn, Best, NoSolution, PivotOn, Pivots, turn, ne
 use Rattle.core_run.specs.Widths.{RatioLeaves, TurnLeaves, FitsThrough, Ended}
 use Rattle.core_run.specs.Answers.{outcome_of}
 
--- the turn after k pivots is the end that is answered, or a pivot on that row and that column
+-- the turn after k pivots ends the run, and is the end that is answered
+abbrev pub IsEnd : ℕ → Turn → End → Type 0
+IsEnd k t end = (outcome_of (Ok end) ≡ Some (Ended k t)) × ¬ (Pivots t)
+
+-- the turn after k pivots is that end, or a pivot on that row and that column
 abbrev pub IsStep : ℕ → Turn → Step → Type 0
-IsStep k t (step.Ends end) = (outcome_of (Ok end) ≡ Some (Ended k t)) × ¬ (Pivots t)
+IsStep k t (step.Ends end) = IsEnd k t end
 IsStep k t (step.Pivot r s) = t ≡ PivotOn r s
 
 -- one of the ratios of a turn leaves
@@ -31,7 +35,7 @@ pub record HasPivoted (most : ℕ) (better : Preference) (d e : Dictionary) : Ty
 -- the turn after k pivots was a whole pivot, or ended the run, or left, or wanted memory
 abbrev pub HasTurned : ℕ → Preference → Dictionary → ℕ → Dictionary → Result (Option End) RunFault → Type 0
 HasTurned most better d k e (Ok None) = HasPivoted most better d e
-HasTurned most better d k e (Ok (Some end)) = (e ≡ d) × IsStep k (turn better d) (step.Ends end)
+HasTurned most better d k e (Ok (Some end)) = (e ≡ d) × IsEnd k (turn better d) end
 HasTurned most better d k e (Err (fault.TooWide n)) =
     (e ≡ d) × (n ≡ k + 1) × TurnLeaves most d (turn better d)
 HasTurned most better d k e (Err (fault.Spent b)) = ⊥

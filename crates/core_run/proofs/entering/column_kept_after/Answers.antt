@@ -1,7 +1,5 @@
 use Rattle.std.proofs.Common.{false, true}
 use Rattle.core_dict.specs.Dictionary.{Dictionary}
-use Rattle.core_run.specs.Kept.{column_of}
-use Rattle.core_run.specs.declared.entering.KeptColumn.{KeptColumn}
 use Rattle.core_run.proofs.KeptRows.{tested}
 use Rattle.core_run.proofs.KeptColumns.{minus_not_zero, column_is, column_passed, column_first}
 use Rattle.core_run.proofs.KeptColumns.{column_taken, column_stays}

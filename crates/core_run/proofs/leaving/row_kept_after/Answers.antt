@@ -1,9 +1,8 @@
-use Rattle.std.proofs.Common.{◌≡◌, ap, arith, false, true}
+use Rattle.std.proofs.Common.{ap, arith, false, true}
 use Rattle.core_dict.specs.Dictionary.{Dictionary}
-use Rattle.core_rules.specs.Candidates.{before, Candidate, Preference}
-use Rattle.core_rules.specs.Kept.{rule_view, candidate_of}
+use Rattle.core_rules.specs.Candidates.{before, Candidate}
+use Rattle.core_rules.specs.Kept.{rule_view}
 use Rattle.core_rules.specs.declared.cand.Cand.{Cand}
-use Rattle.core_run.specs.Choice.{is_negative, row_candidate}
 use Rattle.core_run.proofs.KeptRows.{tested, row_is, row_passed, row_first, row_at, row_taken, row_stays}
 use Rattle.core_run.proofs.KeptRows.{var_ranked}
 use Rattle.core_run.proofs.leaving.row_kept_after.Goals as goal
