@@ -46,7 +46,8 @@ pub fn entering_column<E: Exact, D: Store<E>>(dict: &D, row: usize) -> Result<Op
     Ok(kept.map(|k: KeptColumn<E>| k.col))
 }
 
-// What is kept after one more column. Left exactly where its entry is negative and its ratio leaves.
+// What is kept after one more column. Left exactly where its entry is negative and its ratio
+// leaves.
 fn column_kept_after<E: Exact, D: Store<E>>(
     dict: &D,
     row: usize,
@@ -57,7 +58,8 @@ fn column_kept_after<E: Exact, D: Store<E>>(
     requires col_in { col < (D.dictionary dict.now).cols }
     requires kept { HasKeptColumn E.value (D.dictionary dict.now) row col kept }
     ensures kept { IfOk result (HasKeptColumn E.value (D.dictionary dict.now) row (col + 1)) }
-    ensures left { IsErr result ↔ ColumnLeaves (unsigned_abs E.MOST) (D.dictionary dict.now) row col }
+    ensures left { let d = D.dictionary dict.now in
+        IsErr result ↔ ColumnLeaves (unsigned_abs E.MOST) d row col }
 {
     let entry = dict.entry(row, col);
     if !is_negative(entry) {
