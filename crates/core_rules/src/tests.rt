@@ -56,7 +56,8 @@ fn ranks_choose_among_four(rt: HostRuntime) -> Result<(), Fail> {
         |kept: &Cand, next: &Cand| -> bool
             requires kept_ranked { IsRanked (rule_by ranks) kept.now.var }
             requires next_ranked { IsRanked (rule_by ranks) next.now.var }
-            ensures { result ≡ before (rule_by ranks) (candidate_of kept.now) (candidate_of next.now) }
+            ensures { let better = before (rule_by ranks) in
+                result ≡ better (candidate_of kept.now) (candidate_of next.now) }
         {
             let (new, old) = (ranks.rank(next.var), ranks.rank(kept.var));
             new < old || (new == old && next.var < kept.var)
