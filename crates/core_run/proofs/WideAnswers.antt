@@ -1,6 +1,6 @@
 -- What the answers of the two parts of a run at two widths say of the whole run.
 use Rattle.std.proofs.Common.{◌≡◌, ℕ, ◌+◌, ◌-◌, ◌^◌, ◌≤◌, Option, Result, Ok, Err, IfOk, IfErr}
-use Rattle.std.proofs.Common.{IfSome, IsErrAnd, option_map, ap₂, sym, ◌∙◌, subst, lit≤}
+use Rattle.std.proofs.Common.{IfSome, option_map, ap₂, sym, ◌∙◌, subst, lit≤}
 use Rattle.core_dict.specs.Dictionary.{Dictionary, CostsNotNegative, HasVariables}
 use Rattle.core_rules.specs.Candidates.{Preference, RuleView, before}
 use Rattle.core_run.specs.declared.end.End.{End}
@@ -110,10 +110,3 @@ not_spent rule d budget answer h c says goes enough b e =
     (subst
     (λ a. IfErr a (λ z. IfSome (outcome_of (Err z)) (ComesTo (2 ^ 127 - 1) (before rule) d budget))) e
     says)
-
--- ---- the exit of a `?`
--- a fault that is handed on says what it said
-pub fault_same : {A E : Type 0} (P : E → Type 0) (answer : Result A E) (e : E)
-    → IsErrAnd answer (λ x. x ≡ e) → P e → IfErr answer P
-fault_same P (Ok a) e is here = tt
-fault_same P (Err x) e is here = subst P (sym is) here

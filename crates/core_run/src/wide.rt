@@ -1,5 +1,6 @@
 // A run that is made at 64 bits as far as it fits them, and then at 128.
-ghost use Rattle.std.specs.Prelude.{◌≡◌, ◌≢◌, ◌+◌, ◌-◌, ◌^◌, ◌≤◌, ◌<◌, Ok, Err, IfOk, IfErr, IfSome, option_map};
+ghost use Rattle.std.specs.Prelude.{◌≡◌, ◌≢◌, ◌+◌, ◌-◌, ◌^◌, ◌≤◌, ◌<◌, Ok, Err};
+ghost use Rattle.std.specs.Prelude.{IfOk, IfErr, IfSome, option_map};
 ghost use Rattle.core_dict.specs.Dictionary.{Dictionary, CostsNotNegative, start};
 ghost use Rattle.core_rules.specs.Candidates.{before};
 ghost use Rattle.core_rules.specs.Kept.{rule_view, Keeps};

@@ -1,22 +1,23 @@
 use Rattle.std.proofs.Common.{◌^◌, ◌-◌, Err, IfSome}
+use Rattle.std.proofs.lemmas.Result.{err_from_is_err_and}
 use Rattle.core_rules.specs.Candidates.{before}
 use Rattle.core_rules.specs.Kept.{rule_view}
 use Rattle.core_run.specs.Answers.{outcome_of}
 use Rattle.core_run.specs.Widths.{ComesTo}
-use Rattle.core_run.proofs.WideAnswers.{answer_counted, fault_counted, fault_same}
+use Rattle.core_run.proofs.WideAnswers.{answer_counted, fault_counted}
 use Rattle.core_run.proofs.wide.go_on.Goals as goal
 
 pub returns-in_err-end-clause-fault : goal.returns-in_err-end-clause-fault
 returns-in_err-end-clause-fault g c d first =
-    fault_same
-    (λ f. IfSome (outcome_of (Err f))
-    (ComesTo (2 ^ 127 - 1) (before (rule_view c.args.rule.now)) d c.args.budget))
-    c.from_residual.result c.in_err-end.field-0.0 c.from_residual.ensures.1
-    (fault_counted (before (rule_view c.args.rule.now)) d (g.N.Store.dictionary c.args.narrow.now)
-    (g.W.Store.dictionary c.in-Ok.dict) (g.W.Store.dictionary c.run-rest.new.dict) c.args.made c.args.budget
-    c.requires.within c.in-Ok.ensures first (outcome_of (Err c.in_err-end.field-0.0))
-    (outcome_of c.run-rest.result)
-    c.in_err-end.ensures.outcome c.run-rest.ensures.answer)
+    let better = before (rule_view c.args.rule.now) in
+    let exit = err_from_is_err_and c.from_residual.result c.from_residual.ensures.1 in
+    let says : IfSome (outcome_of (Err c.in_err-end.field-0.0))
+    (ComesTo (2 ^ 127 - 1) better d c.args.budget) =
+    fault_counted better d (g.N.Store.dictionary c.args.narrow.now) (g.W.Store.dictionary c.in-Ok.dict)
+    (g.W.Store.dictionary c.run-rest.new.dict) c.args.made c.args.budget c.requires.within c.in-Ok.ensures
+    first (outcome_of (Err c.in_err-end.field-0.0)) (outcome_of c.run-rest.result)
+    c.in_err-end.ensures.outcome c.run-rest.ensures.answer in
+    rw (exit.1, exit.2) says
 
 pub returns-clause-ended : goal.returns-clause-ended
 returns-clause-ended g c d first =
