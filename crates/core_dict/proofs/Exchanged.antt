@@ -1,8 +1,8 @@
 -- A tableau whose room has been put in place is that of the pivot.
-use Rattle.std.proofs.Common.{◌≡◌, ◌≢◌, ℕ, ◌<◌, ◌≤◌, ◌⊎◌, inl, inr, List, length, get_or, set, cond, eqb}
-use Rattle.std.proofs.Common.{sym, ap, ap₂, ◌∙◌, subst, refl, arith}
+use Rattle.std.proofs.Common.{◌≡◌, ◌≢◌, ℕ, ◌<◌, ◌⊎◌, inl, inr, List, length, get_or, set}
+use Rattle.std.proofs.Common.{sym, ap, ◌∙◌, subst, refl, arith}
 use Rattle.std.proofs.lemmas.Bool.{cases_eq}
-use Rattle.std.proofs.lemmas.List.{get_or-set_same, get_or-set_other, get_or_default, length-set}
+use Rattle.std.proofs.lemmas.List.{get_or-set_same, get_or-set_other, length-set}
 use Rattle.fractions.specs.Fraction.{Fraction, zero_q, neg_ℚ, ◌*ℚ◌, inverse}
 use Rattle.fractions.proofs.Laws.{≤ℚ_total, ≤ℚ_antisymm}
 use Rattle.fractions.proofs.Signs.{not_zero_below, not_zero_above}
@@ -12,7 +12,7 @@ use Rattle.fractions.proofs.Field.{field}
 use Rattle.core_dict.specs.Dictionary.{Dictionary, HasVariables}
 use Rattle.core_dict.specs.Pivot.{pivot, other_entry, other_value}
 use Rattle.core_dict.specs.Variables.{HaveVariables}
-use Rattle.core_dict.specs.Rows.{width, entry_of, fraction_at, AreWide, IsWide, IsExchanged}
+use Rattle.core_dict.specs.Rows.{width, entry_of, AreWide, IsWide, IsExchanged}
 use Rattle.core_dict.specs.Dense.{rows_of, entry_at, value_at, tableau, IsPrepared}
 use Rattle.core_dict.specs.DenseLaw.{slot_entries, slot_value, room_entries, room_value, tableau_outside}
 use Rattle.core_dict.specs.declared.row.Row.{Row}

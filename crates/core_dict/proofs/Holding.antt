@@ -4,7 +4,7 @@ use Rattle.std.proofs.Common.{List, length, get_or, sym, ap, ◌∙◌, subst, r
 use Rattle.std.proofs.lemmas.Bool.{cases_eq}
 use Rattle.fractions.specs.Fraction.{Fraction, one_q, zero_q}
 use Rattle.core_dict.specs.Programme.{ProgrammeView, height, IsProgramme}
-use Rattle.core_dict.specs.Dictionary.{Dictionary, start, HasVariables, IsBasic, IsNonbasic, Agree}
+use Rattle.core_dict.specs.Dictionary.{Dictionary, start, HasVariables, IsBasic, IsNonbasic}
 use Rattle.core_dict.specs.Variables.{is_among, HaveVariables}
 use Rattle.core_dict.specs.Rows.{fraction_at, AreWide, AreStartRows}
 use Rattle.core_dict.specs.Dense.{rows_of, tableau}

@@ -1,5 +1,5 @@
 -- Results: what holds of them at once, and what holds of their numbers.
-use Rattle.std.proofs.Common.{◌≡◌, ◌≢◌, ℕ, ◌<◌, Bool, true, false, Result, Ok, Err, IfOk, OnOk, OnErr, ap₂, subst, inl}
+use Rattle.std.proofs.Common.{◌≡◌, ◌≢◌, ℕ, ◌<◌, true, false, Result, Ok, Err, IfOk, OnOk, OnErr, ap₂, subst, inl}
 use Rattle.fractions.specs.Fraction.{Fraction, zero_q, ◌-ℚ◌, ◌*ℚ◌}
 use Rattle.fractions.specs.Leaves.{OverLeaves}
 use Rattle.core_dict.specs.Leaving.{LessTimesLeaves}

@@ -1,13 +1,12 @@
 -- What a pivot's steps on the rows of a tableau say of the tableau.
-use Rattle.std.proofs.Common.{◌≡◌, ◌≢◌, ℕ, ◌<◌, ◌≤◌, List, length, map, get_or, sym, ap, ◌∙◌, subst, refl, arith}
-use Rattle.std.proofs.lemmas.List.{length-map}
+use Rattle.std.proofs.Common.{◌≡◌, ◌≢◌, ℕ, ◌<◌, List, length, get_or, sym, ap, ◌∙◌, subst, refl, arith}
 use Rattle.fractions.specs.Fraction.{Fraction, zero_q}
 use Rattle.core_dict.specs.Dictionary.{Dictionary}
 use Rattle.core_dict.specs.Pivot.{own_entry, own_value}
 use Rattle.core_dict.specs.Leaving as leaving
 use Rattle.core_dict.specs.Rows.{width, entry_of, fraction_at, entry_after, AreWide, EntriesLeave, OwnRowLeaves, RowLeaves}
 use Rattle.core_dict.specs.Rows.{IsOwnAfter, IsMade}
-use Rattle.core_dict.specs.Dense.{rows_of, entry_at, value_at, tableau, IsPrepared}
+use Rattle.core_dict.specs.Dense.{rows_of, entry_at, tableau, IsPrepared}
 use Rattle.core_dict.specs.DenseLaw.{slot_entries, slot_value, room_entries, room_value}
 use Rattle.core_dict.specs.declared.row.Row.{Row}
 use Rattle.core_dict.specs.declared.row.Slot.{Slot}

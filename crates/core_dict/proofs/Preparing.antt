@@ -1,11 +1,11 @@
 -- What a pivot's steps on the rows say of its dictionary.
-use Rattle.std.proofs.Common.{◌≡◌, ◌≢◌, ℕ, ◌<◌, List, length, get_or, cond, eqb, sym, ap, ap₂, ◌∙◌, subst, refl}
-use Rattle.fractions.specs.Fraction.{Fraction, zero_q, one_q, ◌-ℚ◌, ◌*ℚ◌, ◌/ℚ◌, neg_ℚ}
+use Rattle.std.proofs.Common.{◌≡◌, ◌≢◌, ℕ, ◌<◌, cond, eqb, sym, ap, ap₂, ◌∙◌, subst}
+use Rattle.fractions.specs.Fraction.{Fraction, ◌-ℚ◌, ◌*ℚ◌, ◌/ℚ◌, neg_ℚ}
 use Rattle.fractions.specs.Leaves.{OverLeaves}
 use Rattle.core_dict.specs.Dictionary.{Dictionary}
 use Rattle.core_dict.specs.Pivot.{own_entry, own_value, other_entry, other_value}
 use Rattle.core_dict.specs.Leaving as leaving
-use Rattle.core_dict.specs.Rows.{width, entry_of, fraction_at, divided_entry, entry_after, EntriesLeave, Quotient, Less}
+use Rattle.core_dict.specs.Rows.{width, entry_of, divided_entry, entry_after, EntriesLeave, Quotient, Less}
 use Rattle.core_dict.specs.Rows.{OwnRowLeaves, Entry, OwnValue, RowLeaves, Entries, Value, IsOwnAfter, IsAfter}
 use Rattle.core_dict.specs.declared.row.Row.{Row}
 use Rattle.core_dict.proofs.Outcomes.{leaves_same, less_same}

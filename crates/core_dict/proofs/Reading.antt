@@ -1,12 +1,12 @@
 -- Lists of numbers that are read as fractions: a written place, a number pushed, and operations with 0.
-use Rattle.std.proofs.Common.{◌≡◌, ◌≢◌, ℕ, ◌+◌, ◌<◌, ◌≤◌, ◌⊎◌, inl, inr, Bool, true, false, List, [], ◌∷◌, ◌++◌}
-use Rattle.std.proofs.Common.{length, map, get_or, set, sym, ap, refl, ◌∙◌, subst, arith, below_more, length-append}
+use Rattle.std.proofs.Common.{◌≡◌, ◌≢◌, ℕ, ◌+◌, ◌<◌, ◌≤◌, ◌⊎◌, inl, inr, true, false, List, [], ◌∷◌, ◌++◌}
+use Rattle.std.proofs.Common.{length, get_or, set, sym, ap, refl, ◌∙◌, subst, arith, below_more, length-append}
 use Rattle.std.proofs.Math.Seq.{get_or-append_seam}
 use Rattle.std.proofs.lemmas.Bool.{cases_lt}
 use Rattle.std.proofs.lemmas.List.{get_or-set_same, get_or-set_other, get_or_append_left, length-set}
 use Rattle.algebra.proofs.Ring.{v, ◌⊕◌, ◌⊗◌, ⊖, 𝟎, ring}
-use Rattle.fractions.specs.Fraction.{Fraction, zero_q, ◌+ℚ◌, ◌-ℚ◌, ◌*ℚ◌, neg_ℚ}
-use Rattle.fractions.specs.Leaves.{TimesLeaves, MinusLeaves, OverLeaves}
+use Rattle.fractions.specs.Fraction.{Fraction, zero_q, ◌-ℚ◌, ◌*ℚ◌, neg_ℚ}
+use Rattle.fractions.specs.Leaves.{OverLeaves}
 use Rattle.fractions.proofs.Field.{field}
 use Rattle.core_dict.specs.Leaving.{LessTimesLeaves, Product, Difference}
 use Rattle.core_dict.specs.Rows.{fraction_at}

@@ -1,8 +1,8 @@
 -- A widened tableau holds the same dictionary.
-use Rattle.std.proofs.Common.{◌≡◌, ℕ, ◌<◌, ◌≤◌, List, length, map, get_or, sym, ap, ◌∙◌, subst, refl, arith}
+use Rattle.std.proofs.Common.{◌≡◌, ℕ, ◌<◌, List, length, map, get_or, sym, ap, ◌∙◌, subst, refl, arith}
 use Rattle.std.proofs.lemmas.List.{length-map}
 use Rattle.fractions.specs.Fraction.{Fraction, zero_q}
-use Rattle.core_dict.specs.Rows.{width, entry_of, fraction_at, AreWide, IsWidened}
+use Rattle.core_dict.specs.Rows.{width, fraction_at, AreWide, IsWidened}
 use Rattle.core_dict.specs.Dense.{rows_of, tableau}
 use Rattle.core_dict.specs.DenseLaw.{some_of, slot_entries, slot_value, tableau_outside}
 use Rattle.core_dict.specs.declared.row.Slot.{Slot}

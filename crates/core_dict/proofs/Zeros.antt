@@ -1,12 +1,12 @@
 -- The programme whose numbers are all 0.
 use Rattle.std.proofs.Common.{◌≡◌, ℕ, ◌<◌, ◌≤◌, ◌^◌, ◌⊎◌, inl, inr, ℤ, pos, unsigned_abs, length, get_or}
-use Rattle.std.proofs.Common.{replicate, sym, ap, subst, ◌∙◌, arith}
+use Rattle.std.proofs.Common.{replicate, sym, subst}
 use Rattle.std.proofs.Math.Dec.{lit≤}
 use Rattle.std.proofs.lemmas.Bool.{cases_lt}
 use Rattle.std.proofs.lemmas.List.{get_or-replicate, get_or_past, length-replicate}
 use Rattle.std.proofs.lemmas.List.Elements.{All-replicate}
 use Rattle.core_sums.specs.Places.{at}
-use Rattle.core_dict.specs.Programme.{ProgrammeView, Row, height, no_row, entry, bound, IsProgramme, IsSmall}
+use Rattle.core_dict.specs.Programme.{Row, no_row, IsProgramme, IsSmall}
 use Rattle.core_dict.specs.Programme.{zeros}
 
 -- a row of zeros

@@ -1,5 +1,5 @@
 -- What a dense tableau holds is a dictionary.
-use Rattle.std.proofs.Common.{◌≡◌, ◌≢◌, ℕ, zero, suc, ◌+◌, ◌<◌, ◌≤◌, ◌⊎◌, inl, inr, Bool, true, false, ◌||◌}
+use Rattle.std.proofs.Common.{◌≡◌, ◌≢◌, ℕ, zero, suc, ◌<◌, ◌≤◌, ◌⊎◌, inl, inr, Bool, true, ◌||◌}
 use Rattle.std.proofs.Common.{List, [], ◌∷◌, length, map, get_or, sym, ap, ◌∙◌, subst, arith, ne_eqb}
 use Rattle.std.proofs.lemmas.Bool.{cases_lt, cases_eq, or_cases}
 use Rattle.std.proofs.lemmas.List.{get_or_past, get_or-map, length-map}

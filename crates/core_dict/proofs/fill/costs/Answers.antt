@@ -1,4 +1,4 @@
-use Rattle.std.proofs.Common.{◌≡◌, ℕ, suc, ◌+◌, ◌<◌, List, length, sym, ap, ◌∙◌, subst, arith, cond, eqb}
+use Rattle.std.proofs.Common.{◌≡◌, ℕ, suc, ◌+◌, ◌<◌, List, sym, ap, ◌∙◌, subst, arith, cond, eqb}
 use Rattle.fractions.specs.Fraction.{one_q, zero_q}
 use Rattle.core_dict.specs.Rows.{fraction_at}
 use Rattle.core_dict.proofs.Choice.{at_equal, at_other}

@@ -1,4 +1,4 @@
-use Rattle.std.proofs.Common.{◌≡◌, ℕ, ◌+◌, ◌<◌, List, length, get_or, sym, ap, ◌∙◌, subst, arith}
+use Rattle.std.proofs.Common.{ℕ, ◌+◌, ◌<◌, List, get_or, sym, subst, arith}
 use Rattle.core_dict.specs.Rows.{IsStartRow}
 use Rattle.core_dict.proofs.Filling.{each_pushed}
 use Rattle.core_dict.proofs.fill.slots.Goals as goal

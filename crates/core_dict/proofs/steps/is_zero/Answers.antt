@@ -1,4 +1,4 @@
-use Rattle.std.proofs.Common.{◌≡◌, ◌↔◌, ℤ, pos, SFits, IsTrue, of_z, to_z, rules, sym, ap, ◌∙◌, refl, eq-eqb, eqb-true, eqb}
+use Rattle.std.proofs.Common.{◌≡◌, ◌↔◌, ℤ, pos, SFits, IsTrue, of_z, to_z, rules, sym, ap, ◌∙◌, eq-eqb, eqb-true, eqb}
 use Rattle.std.proofs.lemmas.Int.{to_z-of_z}
 use Rattle.std.specs.Int.{int_signum}
 use Rattle.fractions.specs.Fraction.{Fraction, zero_q}

@@ -1,4 +1,4 @@
-use Rattle.std.proofs.Common.{◌≡◌, ℕ, ◌↔◌, Bool, true, false, inr, sym, ◌∙◌, subst}
+use Rattle.std.proofs.Common.{◌≡◌, ℕ, ◌↔◌, Bool, true, false, inr, sym, subst}
 use Rattle.fractions.specs.Fraction.{Fraction, zero_q, ◌*ℚ◌}
 use Rattle.fractions.specs.Leaves.{TimesLeaves, MinusLeaves}
 use Rattle.core_dict.specs.Leaving.{LessTimesLeaves, Product, Difference}

@@ -1,4 +1,4 @@
-use Rattle.std.proofs.Common.{◌≡◌, ℕ, ◌<◌, sym, ◌∙◌, subst}
+use Rattle.std.proofs.Common.{ℕ, ◌<◌, sym, ◌∙◌, subst}
 use Rattle.core_dict.proofs.Outcomes.{unchanged_row}
 use Rattle.core_dict.proofs.Reading.{fraction_is}
 use Rattle.core_dict.proofs.steps.make.Goals as goal

@@ -1,4 +1,4 @@
-use Rattle.std.proofs.Common.{◌≡◌, ◌≢◌, ℕ, ◌<◌, unsigned_abs, cond, eqb, sym, ap, ◌∙◌, refl, arith, below_more, length}
+use Rattle.std.proofs.Common.{◌≡◌, ◌≢◌, ℕ, unsigned_abs, cond, eqb, sym, ap, ◌∙◌, refl, arith, below_more}
 use Rattle.fractions.specs.Fraction.{Fraction, neg_ℚ, ◌-ℚ◌, ◌*ℚ◌, ◌/ℚ◌}
 use Rattle.core_dict.specs.Leaving.{LessTimesLeaves}
 use Rattle.core_dict.specs.Rows.{fraction_at, entry_after, Less}

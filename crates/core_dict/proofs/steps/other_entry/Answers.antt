@@ -1,5 +1,4 @@
-use Rattle.std.proofs.Common.{◌≡◌, sym, ◌∙◌, subst, length, ◌<◌, ℕ}
-use Rattle.core_dict.specs.Rows.{fraction_at}
+use Rattle.std.proofs.Common.{sym, ◌∙◌, subst, length, ◌<◌, ℕ}
 use Rattle.core_dict.proofs.Choice.{at_equal, at_other}
 use Rattle.core_dict.proofs.Outcomes.{if_ok, less_same, leaves_same}
 use Rattle.core_dict.proofs.Reading.{fraction_is}

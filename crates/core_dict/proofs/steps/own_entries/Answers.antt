@@ -1,6 +1,5 @@
-use Rattle.std.proofs.Common.{◌≡◌, ◌≢◌, ℕ, ◌+◌, ◌<◌, sym, ap, ap₂, ◌∙◌, subst, unsigned_abs, below_more, arith, length}
-use Rattle.fractions.specs.Fraction.{Fraction, one_q, ◌/ℚ◌}
-use Rattle.fractions.specs.Leaves.{OverLeaves}
+use Rattle.std.proofs.Common.{◌≡◌, sym, ap, ap₂, ◌∙◌, below_more, arith}
+use Rattle.fractions.specs.Fraction.{◌/ℚ◌}
 use Rattle.core_dict.specs.Rows.{fraction_at, divided_entry}
 use Rattle.core_dict.proofs.Choice.{at_equal, at_other}
 use Rattle.core_dict.proofs.Reading.{fraction_is, more_written, not_left}

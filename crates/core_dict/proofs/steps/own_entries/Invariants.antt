@@ -1,5 +1,5 @@
 use Rattle.std.proofs.Common.{◌≡◌, ℕ, ◌<◌, unsigned_abs}
-use Rattle.fractions.specs.Fraction.{Fraction, ◌/ℚ◌}
+use Rattle.fractions.specs.Fraction.{◌/ℚ◌}
 use Rattle.fractions.specs.Leaves.{OverLeaves}
 use Rattle.core_dict.specs.Rows.{fraction_at, divided_entry}
 use Rattle.core_dict.proofs.steps.own_entries.Given as goal

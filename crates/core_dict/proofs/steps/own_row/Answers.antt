@@ -1,6 +1,6 @@
-use Rattle.std.proofs.Common.{◌≡◌, ℕ, ◌<◌, List, length, unsigned_abs, sym, ap, ◌∙◌, subst, refl}
+use Rattle.std.proofs.Common.{ℕ, ◌<◌, List, length, unsigned_abs, sym, subst, refl}
 use Rattle.fractions.specs.Leaves.{OverLeaves}
-use Rattle.core_dict.specs.Rows.{fraction_at, divided_entry, Entry, OwnValue}
+use Rattle.core_dict.specs.Rows.{fraction_at, divided_entry, Entry}
 use Rattle.core_dict.proofs.Outcomes.{on_err, no_own_leaves}
 use Rattle.core_dict.proofs.Reading.{fraction_is, not_left}
 use Rattle.core_dict.proofs.steps.own_row.Goals as goal

@@ -1,10 +1,9 @@
 use Rattle.std.proofs.Common.{◌≡◌, ℕ, ◌<◌, List, length, get_or, set, sym, ap, ◌∙◌, subst, refl, arith}
-use Rattle.std.specs.Vec.{with_items, with_item}
+use Rattle.std.specs.Vec.{with_item}
 use Rattle.std.proofs.lemmas.List.{with_items_is, get_or_default, length-set}
 use Rattle.core_dict.specs.Rows.{width, AreWide, IsExchanged}
 use Rattle.core_dict.specs.Dense.{rows_of, tableau}
 use Rattle.core_dict.specs.DenseLaw.{dense_is_dictionary}
-use Rattle.core_dict.specs.declared.row.Row.{Row}
 use Rattle.core_dict.specs.declared.row.Slot.{Slot}
 use Rattle.core_dict.proofs.Exchanged.{pivoted, variables_after, wide_after}
 use Rattle.core_dict.proofs.dense.Dense.exchange.Goals as goal

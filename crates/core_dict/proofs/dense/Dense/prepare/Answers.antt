@@ -1,9 +1,7 @@
 use Rattle.std.proofs.Common.{◌≡◌, ◌≢◌, ℕ, ◌<◌, List, length, get_or, unsigned_abs, sym, ap, ◌∙◌, subst, refl, arith}
 use Rattle.std.specs.Vec.{with_items}
 use Rattle.std.proofs.lemmas.List.{with_items_is}
-use Rattle.fractions.specs.Fraction.{Fraction, zero_q}
-use Rattle.core_dict.specs.Rows.{width, entry_of, fraction_at, entry_after, EntriesLeave, RowLeaves, AreWide}
-use Rattle.core_dict.specs.Leaving.{PivotLeaves}
+use Rattle.core_dict.specs.Rows.{entry_of, fraction_at, entry_after, EntriesLeave, RowLeaves, AreWide}
 use Rattle.core_dict.specs.Dense.{rows_of, tableau, IsPrepared}
 use Rattle.core_dict.specs.declared.row.Slot.{Slot}
 use Rattle.core_dict.proofs.Outcomes.{on_err, if_ok, if_err}

@@ -1,8 +1,6 @@
-use Rattle.std.proofs.Common.{◌≡◌, sym, ap, ◌∙◌, subst}
-use Rattle.fractions.specs.Fraction.{zero_q}
+use Rattle.std.proofs.Common.{sym, ap, ◌∙◌}
 use Rattle.core_dict.specs.Dictionary.{Dictionary}
 use Rattle.core_dict.specs.Pivot.{pivot}
-use Rattle.core_dict.proofs.Preparing.{no_pivot_leaves}
 use Rattle.core_dict.proofs.dense.DenseStore.pivot.Goals as goal
 
 pub exchange-requires-clause-entry : goal.exchange-requires-clause-entry

@@ -1,7 +1,7 @@
-use Rattle.std.proofs.Common.{◌≡◌, ℕ, ◌+◌, ◌<◌, List, length, get_or, sym, ap, ◌∙◌, subst, arith, cond, eqb, suc}
+use Rattle.std.proofs.Common.{◌≡◌, ℕ, ◌+◌, ◌<◌, length, get_or, sym, ap, ◌∙◌, subst, cond, eqb, suc}
 use Rattle.fractions.specs.Fraction.{one_q, zero_q}
 use Rattle.core_dict.specs.Programme.{height}
-use Rattle.core_dict.specs.Rows.{IsWide, AreWide}
+use Rattle.core_dict.specs.Rows.{IsWide}
 use Rattle.core_dict.proofs.Holding.{start_held, start_tableau}
 use Rattle.core_dict.proofs.dense.DenseStore.start.Goals as goal
 

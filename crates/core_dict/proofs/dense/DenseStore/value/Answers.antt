@@ -1,4 +1,4 @@
-use Rattle.std.proofs.Common.{◌≡◌, ℕ, ◌<◌, sym, ap, ◌∙◌, subst}
+use Rattle.std.proofs.Common.{ℕ, ◌<◌, sym, ap, ◌∙◌, subst}
 use Rattle.core_dict.specs.DenseLaw.{slot_value}
 use Rattle.core_dict.proofs.dense.DenseStore.value.Goals as goal
 

@@ -1,4 +1,4 @@
-use Rattle.std.proofs.Common.{◌≡◌, ℕ, ◌≤◌, List, replicate, sym, subst, ap, ◌∙◌, arith, pos}
+use Rattle.std.proofs.Common.{◌≡◌, ℕ, List, replicate, sym, subst, ap, ◌∙◌, arith, pos}
 use Rattle.core_dict.specs.Programme.{ProgrammeView, Row, IsProgramme, IsSmall}
 use Rattle.core_dict.proofs.Zeros.{IsProgramme_zeros, IsSmall_zeros}
 use Rattle.core_dict.proofs.programme.Programme.make.Goals as goal
