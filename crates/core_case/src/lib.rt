@@ -10,8 +10,6 @@ mod kinds;
 mod laws;
 mod parts;
 mod read;
-#[cfg(test)]
-mod read_tests;
 mod register;
 mod shape;
 mod spans;

@@ -12,8 +12,6 @@ mod record;
 mod shape;
 mod state;
 mod steps;
-#[cfg(test)]
-mod tests;
 mod write;
 
 pub use laws::cert_text_law;

@@ -14,8 +14,6 @@ mod conditions;
 mod fault;
 mod places;
 mod ratios;
-#[cfg(test)]
-mod tests;
 mod weights;
 
 ghost use Rattle.std.specs.Prelude.{◌≡◌, OnOk, IfErr};

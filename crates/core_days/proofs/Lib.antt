@@ -1,7 +1,7 @@
-pub mod Rows
+mod Rows
 pub mod Opens
 pub mod PayDays
-pub mod Counted
-pub mod Working
-pub mod HouseDays
-pub mod Walk
+mod Counted
+mod Working
+mod HouseDays
+mod Walk

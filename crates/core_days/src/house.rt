@@ -20,7 +20,8 @@ pub fn house_days(
     requires start { IsStart (epoch_day start) }
     requires few { length holidays.now ≤ 400 }
     requires last { last ≤ 40 }
-    ensures { IfOk result (λ days. AreHouseDays (epoch_day start) (map epoch_day holidays.now) last (map epoch_day days.items)) }
+    ensures { IfOk result (λ days. AreHouseDays (epoch_day start) (map epoch_day holidays.now) last
+        (map epoch_day days.items)) }
 {
     let count = last as usize + 1;
     let mut days = Vec::with_capacity(alloc, count)?;
@@ -39,7 +40,8 @@ pub fn house_days(
 ///
 /// Day 0 counts as open for every market. The only error is want of memory.
 pub fn open_flags(alloc: Global, days: &[Date], holidays: &[Date]) -> Result<Vec<bool>, AllocError>
-    ensures { IfOk result (λ flags. AreOpenFlags (map epoch_day holidays.now) (map epoch_day days.now) flags.items) }
+    ensures { IfOk result (λ flags. AreOpenFlags (map epoch_day holidays.now)
+        (map epoch_day days.now) flags.items) }
 {
     let mut flags = Vec::with_capacity(alloc, days.len())?;
     for (t, date) in days.iter().enumerate() {

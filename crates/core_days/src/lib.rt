@@ -12,6 +12,3 @@ mod pay;
 pub use house::{house_days, open_flags};
 pub use laws::{house_day_law, pay_day_law};
 pub use pay::pay_day;
-
-#[cfg(test)]
-mod tests;

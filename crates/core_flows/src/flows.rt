@@ -39,7 +39,8 @@ impl<'a> Model for Flows<'a> {
 fn fixed_sums(alloc: Global, case: &Case, last: u8) -> Result<Vec<i128>, AllocError>
     requires kept { IsCase case.now }
     requires last { last ≡ case.now.last }
-    ensures { IfOk result (λ sums. IsTable (suc case.now.last) (λ t z. z ≡ fixed case.now t) sums.items) }
+    ensures { IfOk result (λ sums. IsTable (suc case.now.last) (λ t z. z ≡ fixed case.now t)
+        sums.items) }
 {
     let count = last + 1;
     let mut sums = Vec::with_capacity(alloc, count as usize)?;

@@ -42,7 +42,8 @@ impl PayTable {
     pub(crate) fn marked_to(&self, closed: u8, day: u8) -> u8
         requires closed { closed < length self.now.pay_days.items }
         requires day { day < length self.now.last_paid.items }
-        ensures { result ≡ (if is_by (get_or self.now.pay_days.items closed None) day then closed else get_or self.now.last_paid.items day 0) }
+        ensures { result ≡ (if is_by (get_or self.now.pay_days.items closed None) day then closed
+            else get_or self.now.last_paid.items day 0) }
     {
         if self.is_paid_by(closed, day) {
             closed
@@ -55,7 +56,8 @@ impl PayTable {
 /// The pay days of an instrument, by house day.
 fn pay_days(alloc: Global, case: &Case, i: usize) -> Result<Vec<Option<u8>>, AllocError>
     requires { i < length case.now.instruments }
-    ensures { IfOk result (λ days. IsTable (suc case.now.last) (λ v w. w ≡ pays case.now i v) days.items) }
+    ensures { IfOk result (λ days. IsTable (suc case.now.last) (λ v w. w ≡ pays case.now i v)
+        days.items) }
 {
     let count = case.last() + 1;
     let mut days = Vec::with_capacity(alloc, count as usize)?;
@@ -68,7 +70,8 @@ fn pay_days(alloc: Global, case: &Case, i: usize) -> Result<Vec<Option<u8>>, All
 /// The last day that is paid by a house day, 0 where there is none.
 fn last_paid(pay_days: &[Option<u8>], day: u8) -> u8
     requires { length pay_days.now ≤ 41 }
-    ensures { result ≡ open_day_before (λ v. is_by (get_or pay_days.now v None) day) (length pay_days.now) }
+    ensures { result ≡ open_day_before (λ v. is_by (get_or pay_days.now v None) day)
+        (length pay_days.now) }
 {
     let mut last = 0;
     for v in 0..pay_days.len() as u8 {
@@ -82,7 +85,9 @@ fn last_paid(pay_days: &[Option<u8>], day: u8) -> u8
 /// The last days that are paid, by house day.
 fn last_paid_days(alloc: Global, pay_days: &[Option<u8>]) -> Result<Vec<u8>, AllocError>
     requires { length pay_days.now ≤ 41 }
-    ensures { IfOk result (λ days. IsTable (length pay_days.now) (λ t v. v ≡ open_day_before (λ w. is_by (get_or pay_days.now w None) t) (length pay_days.now)) days.items) }
+    ensures { IfOk result (λ days. IsTable (length pay_days.now)
+        (λ t v. v ≡ open_day_before (λ w. is_by (get_or pay_days.now w None) t)
+        (length pay_days.now)) days.items) }
 {
     let mut days = Vec::with_capacity(alloc, pay_days.len())?;
     for day in 0..pay_days.len() as u8 {
@@ -108,7 +113,8 @@ fn pay_table(alloc: Global, case: &Case, i: usize) -> Result<PayTable, AllocErro
 /// The tables of all instruments.
 pub(crate) fn pay_tables(alloc: Global, case: &Case) -> Result<Vec<PayTable>, AllocError>
     requires { IsCase case.now }
-    ensures { IfOk result (λ tables. IsTable (length case.now.instruments) (IsPayTable case.now) tables.items) }
+    ensures { IfOk result (λ tables. IsTable (length case.now.instruments) (IsPayTable case.now)
+        tables.items) }
 {
     let count = case.instruments();
     let mut tables = Vec::with_capacity(alloc, count)?;

@@ -43,7 +43,9 @@ fn marks(case: &Case, line: usize, scenario: usize, last: u8) -> i128
     requires line { line < length case.now.lines }
     requires scenario { scenario < length case.now.scenarios }
     requires last { last ≤ case.now.last }
-    ensures value { result ≡ size case.now line *ℤ (price case.now scenario (instrument_of case.now line) last -ℤ price case.now scenario (instrument_of case.now line) 0) }
+    ensures value { result ≡ size case.now line
+        *ℤ (price case.now scenario (instrument_of case.now line) last
+        -ℤ price case.now scenario (instrument_of case.now line) 0) }
     ensures small { unsigned_abs result ≤ 2 * 10 ^ 18 }
 {
     product(
@@ -58,7 +60,8 @@ fn sale(case: &Case, line: usize, scenario: usize, day: u8) -> i128
     requires line { line < length case.now.lines }
     requires scenario { scenario < length case.now.scenarios }
     requires day { day ≤ case.now.last }
-    ensures value { result ≡ size case.now line *ℤ price case.now scenario (instrument_of case.now line) day }
+    ensures value { result ≡ size case.now line
+        *ℤ price case.now scenario (instrument_of case.now line) day }
     ensures small { unsigned_abs result ≤ 10 ^ 18 }
 {
     product(

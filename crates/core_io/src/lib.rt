@@ -55,7 +55,8 @@ pub trait Shelf {
         ensures counts { (other : List ℕ) → faults self.old other ≤ faults self.new other }
         ensures fits { IfOk result (λ n. n ≤ length into.new) }
         ensures gives { IfOk result (λ n. GivesIfTold (told self.old name.now) at n into.new) }
-        ensures cause { result ≡ Err ShelfFault.Failed → Rose (faults self.old name.now) (faults self.new name.now) };
+        ensures cause { result ≡ Err ShelfFault.Failed
+            → Rose (faults self.old name.now) (faults self.new name.now) };
 }
 
 /// A place where bytes are written one after the other, with a count of its faults.
@@ -71,7 +72,8 @@ pub trait Sink {
     fn write(&mut self, piece: &[u8]) -> Result<usize, Failed>
         ensures fits { IfOk result (λ n. n ≤ length piece.now) }
         ensures some { IfOk result (λ n. 0 < length piece.now → 0 < n) }
-        ensures appends { IfOk result (λ n. Appends (written self.old) (written self.new) (take n piece.now)) }
+        ensures appends { IfOk result (λ n. Appends (written self.old) (written self.new)
+            (take n piece.now)) }
         ensures unchanged { OnErr result (written self.new ≡ written self.old) }
         ensures counts { faults self.old ≤ faults self.new }
         ensures cause { OnErr result (Rose (faults self.old) (faults self.new)) };
@@ -87,12 +89,15 @@ pub fn read_all<S: Shelf>(
 ) -> Result<Vec<u8>, ReadAll>
     requires { most ≤ 4194304 }
 
-    ensures bytes { IfOk result (λ v. IfSome (S.told shelf.old name.now) (λ bytes. v.items ≡ bytes)) }
+    ensures bytes { IfOk result (λ v. IfSome (S.told shelf.old name.now)
+        (λ bytes. v.items ≡ bytes)) }
     ensures at_most { IfOk result (λ v. length v.items ≤ most) }
-    ensures long { result ≡ Err ReadAll.Long → IfSome (S.told shelf.old name.now) (λ bytes. most < length bytes) }
+    ensures long { result ≡ Err ReadAll.Long → IfSome (S.told shelf.old name.now)
+        (λ bytes. most < length bytes) }
 
     // Only a fault of this name is answered as one, and a read changes no bytes.
-    ensures fault { result ≡ Err ReadAll.Fault → Rose (S.faults shelf.old name.now) (S.faults shelf.new name.now) }
+    ensures fault { result ≡ Err ReadAll.Fault
+        → Rose (S.faults shelf.old name.now) (S.faults shelf.new name.now) }
     ensures kept { (other : List ℕ) → S.told shelf.new other ≡ S.told shelf.old other }
     ensures counts { (other : List ℕ) → S.faults shelf.old other ≤ S.faults shelf.new other }
 {
@@ -128,6 +133,3 @@ pub fn write_all<K: Sink>(sink: &mut K, text: &[u8]) -> Result<(), Failed>
     }
     Ok(())
 }
-
-#[cfg(test)]
-mod tests;

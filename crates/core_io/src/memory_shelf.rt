@@ -45,7 +45,8 @@ impl MemShelf {
     /// is added. Where memory runs out nothing changes.
     pub fn put(&mut self, name: &str, bytes: &[u8]) -> Result<(), AllocError>
         ensures told { OnOk result (told_by self.new name.now ≡ Some bytes.now) }
-        ensures others { (other : List ℕ) → other ≢ name.now → told_by self.new other ≡ told_by self.old other }
+        ensures others { (other : List ℕ) → other ≢ name.now
+            → told_by self.new other ≡ told_by self.old other }
         ensures counts { (other : List ℕ) → faults_of self.new other ≡ faults_of self.old other }
         ensures calls { calls_of self.new ≡ calls_of self.old }
         ensures err { OnErr result (told_by self.new name.now ≡ told_by self.old name.now) }
@@ -81,7 +82,9 @@ impl MemShelf {
     /// Counts a fault of the name.
     fn count_fault(&mut self, name: &str)
         ensures kept { (other : List ℕ) → told_by self.new other ≡ told_by self.old other }
-        ensures counted { (other : List ℕ) → faults_of self.new other ≡ (if shares_count self.old name.now other then next_count (faults_of self.old other) else faults_of self.old other) }
+        ensures counted { (other : List ℕ) → faults_of self.new other
+            ≡ (if shares_count self.old name.now other then next_count (faults_of self.old other)
+            else faults_of self.old other) }
         ensures counts { (other : List ℕ) → faults_of self.old other ≤ faults_of self.new other }
         ensures calls { calls_of self.new ≡ calls_of self.old }
     {
@@ -121,13 +124,17 @@ impl Shelf for MemShelf {
         ensures counts { (other : List ℕ) → faults_of self.old other ≤ faults_of self.new other }
         ensures fits { IfOk result (λ n. n ≤ length into.new) }
         ensures gives { IfOk result (λ n. GivesIfTold (told_by self.old name.now) at n into.new) }
-        ensures cause { result ≡ Err ShelfFault.Failed → Rose (faults_of self.old name.now) (faults_of self.new name.now) }
+        ensures cause { result ≡ Err ShelfFault.Failed
+            → Rose (faults_of self.old name.now) (faults_of self.new name.now) }
 
         // Beyond what each shelf promises: when it fails, what is counted, and how much is given.
         ensures fails { is_err result ≡ read_fails self.old name.now }
         ensures never_memory { result ≢ Err ShelfFault.NoMemory }
-        ensures counted { (other : List ℕ) → faults_of self.new other ≡ (if is_err result && shares_count self.old name.now other then next_count (faults_of self.old other) else faults_of self.old other) }
-        ensures fills { IfOk result (λ n. IfSome (told_by self.old name.now) (λ bytes. n ≡ min (length bytes - at) (length into.new))) }
+        ensures counted { (other : List ℕ) → faults_of self.new other
+            ≡ (if is_err result && shares_count self.old name.now other
+            then next_count (faults_of self.old other) else faults_of self.old other) }
+        ensures fills { IfOk result (λ n. IfSome (told_by self.old name.now)
+            (λ bytes. n ≡ min (length bytes - at) (length into.new))) }
         ensures called { calls_of self.new ≡ after_call (calls_of self.old) }
     {
         if self.calls.fails_now() || self.entries.get(name).is_none() {

@@ -49,7 +49,8 @@ impl MemSink {
     /// The write of that number fails, counted from 1, beside those given before. Where memory runs out nothing
     /// changes.
     pub fn fail_at(&mut self, call: u64) -> Result<(), AllocError>
-        ensures ok { OnOk result (self.new ≡ record self.old { calls = with_failing self.old.calls call }) }
+        ensures ok { OnOk result (self.new ≡ record self.old
+            { calls = with_failing self.old.calls call }) }
         ensures err { OnErr result (self.new ≡ self.old) }
     {
         self.calls.fail_at(call)
@@ -72,7 +73,8 @@ impl Sink for MemSink {
     fn write(&mut self, piece: &[u8]) -> Result<usize, Failed>
         ensures fits { IfOk result (λ n. n ≤ length piece.now) }
         ensures some { IfOk result (λ n. 0 < length piece.now → 0 < n) }
-        ensures appends { IfOk result (λ n. Appends (Some self.old.written) (Some self.new.written) (take n piece.now)) }
+        ensures appends { IfOk result (λ n. Appends (Some self.old.written) (Some self.new.written)
+            (take n piece.now)) }
         ensures unchanged { OnErr result (Some self.new.written ≡ Some self.old.written) }
         ensures counts { self.old.faults ≤ self.new.faults }
         ensures cause { OnErr result (Rose self.old.faults self.new.faults) }
@@ -80,8 +82,10 @@ impl Sink for MemSink {
         // Beyond what each sink promises: when it fails, how much it takes, and what it is afterwards.
         ensures fails { is_err result ≡ write_fails self.old piece.now }
         ensures takes { IfOk result (λ n. n ≡ taken_of self.old piece.now) }
-        ensures ok { IfOk result (λ n. self.new ≡ record self.old { written = self.old.written ++ take n piece.now; calls = after_call self.old.calls }) }
-        ensures err { OnErr result (self.new ≡ record self.old { faults = next_count self.old.faults; calls = after_call self.old.calls }) }
+        ensures ok { IfOk result (λ n. self.new ≡ record self.old
+            { written = self.old.written ++ take n piece.now; calls = after_call self.old.calls }) }
+        ensures err { OnErr result (self.new ≡ record self.old
+            { faults = next_count self.old.faults; calls = after_call self.old.calls }) }
     {
         let room_left = self.room - self.bytes.len();
         let n = piece.len().min(self.most).min(room_left);

@@ -6,8 +6,6 @@ mod fault;
 mod ledger;
 mod lines;
 mod losses;
-#[cfg(test)]
-mod tests;
 
 pub use fault::ReplayFault;
 pub use ledger::{Ledger, replay};

@@ -18,6 +18,3 @@ pub use push::{law_of_date_texts, law_of_number_texts};
 pub use put::{law_of_put_rows, put_row};
 pub use reading::records;
 pub use shape::{Shape, fault_unless, fields_fault};
-
-#[cfg(test)]
-mod read_tests;

@@ -33,29 +33,3 @@ pub fn put_row(alloc: Global, out: &mut Vec<u8>, row: &Fields) -> Result<(), All
 pub fn law_of_put_rows()
     ensures { PutRowsReadBack }
 {}
-
-#[cfg(test)]
-mod tests {
-    use super::put_row;
-    use crate::fields::Fields;
-    use jiff::civil::date;
-    use std::test::Fail;
-
-    #[test]
-    fn rows_are_printed(rt: HostRuntime) -> Result<(), Fail> {
-        let mut first = Fields::make(rt.alloc());
-        first.push(b"amount")?;
-        first.push_number(0)?;
-        first.push_number(-14)?;
-        first.push_number(-170141183460469231731687303715884105727)?;
-        first.push_date(date(2024, 4, 26))?;
-        let mut second = Fields::make(rt.alloc());
-        second.push(b"end")?;
-        let mut out = Vec::new(rt.alloc());
-        put_row(rt.alloc(), &mut out, &first)?;
-        put_row(rt.alloc(), &mut out, &second)?;
-        let text = b"amount,0,-14,-170141183460469231731687303715884105727,2024-04-26\nend\n";
-        assert_eq!(rt; out.as_slice(), text.as_slice());
-        Ok(())
-    }
-}

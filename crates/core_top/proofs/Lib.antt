@@ -1,7 +1,7 @@
-pub mod OneFuture
-pub mod OneFutureShows
-pub mod FirstForm
-pub mod OneFutureFits
+mod OneFuture
+mod OneFutureShows
+mod FirstForm
+mod OneFutureFits
 mod Said
 mod Dues
 mod Owed

@@ -80,7 +80,8 @@ fn cert_status(cert: &Cert) -> u8
 fn one_future_margin(alloc: Global, case: &Case) -> Answer
     requires kept { IsCase case.now }
     requires one { IsOneFuture case.now }
-    ensures { IfOk result (λ due. (due.status ≡ cert_status (one_future_cert case.now)) × (due.text.items ≡ cert_text case.now (one_future_cert case.now))) }
+    ensures { IfOk result (λ due. (due.status ≡ cert_status (one_future_cert case.now))
+        × (due.text.items ≡ cert_text case.now (one_future_cert case.now))) }
 {
     let cert = one_future_cert(alloc, case)?;
     let text = write_cert(alloc, case, &cert)?;
@@ -93,7 +94,8 @@ fn one_future_margin(alloc: Global, case: &Case) -> Answer
 /// The answer of `margin` to a case.
 pub(crate) fn margin(alloc: Global, case: &Case) -> Answer
     requires { IsCase case.now }
-    ensures { IfOk result (λ due. (due.status ≡ case_status case.now) × (due.text.items ≡ case_text case.now)) }
+    ensures { IfOk result (λ due. (due.status ≡ case_status case.now)
+        × (due.text.items ≡ case_text case.now)) }
 {
     if is_one_future(case) {
         one_future_margin(alloc, case)

@@ -50,7 +50,8 @@ fn accepted(alloc: Global, cert: &Cert) -> Answer
 
 /// The answer to a certificate that does not hold at a place of a condition.
 fn refused(alloc: Global, condition: u8, place: u32) -> Answer
-    ensures { IfOk result (λ due. (due.status ≡ 10) × (due.text.items ≡ refused_said condition place)) }
+    ensures { IfOk result (λ due. (due.status ≡ 10)
+        × (due.text.items ≡ refused_said condition place)) }
 {
     let mut fields = Fields::make(alloc);
     fields.push(b"refused")?;

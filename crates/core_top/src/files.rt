@@ -23,7 +23,8 @@ fn stated_case(alloc: Global, bytes: &[u8]) -> Result<Case, Answer>
     requires { length bytes.now ≤ 4194304 }
     ensures kept { IfOk result IsCase }
     ensures states { IfOk result (λ case. case_of_bytes bytes.now ≡ Ok case) }
-    ensures refused { IfErr result (λ answer. IfOk answer (λ due. RefusesCase (case_of_bytes bytes.now) due.status due.text.items)) }
+    ensures refused { IfErr result (λ answer. IfOk answer
+        (λ due. RefusesCase (case_of_bytes bytes.now) due.status due.text.items)) }
 {
     match read_case(alloc, bytes) {
         Ok(case) => Ok(case),
@@ -36,7 +37,10 @@ fn stated_case(alloc: Global, bytes: &[u8]) -> Result<Case, Answer>
 pub(crate) fn case_under<S: Shelf>(alloc: Global, shelf: &mut S, name: &str) -> Result<Case, Answer>
     ensures kept { IfOk result IsCase }
     ensures states { IfOk result (λ case. CaseUnder (S.told shelf.old name.now) case) }
-    ensures ends { IfErr result (λ answer. IfOk answer (λ due. EndsAtCase (S.told shelf.old name.now) (Rose (S.faults shelf.old name.now) (S.faults shelf.new name.now)) due.status due.text.items)) }
+    ensures ends { IfErr result (λ answer. IfOk answer
+        (λ due. EndsAtCase (S.told shelf.old name.now)
+        (Rose (S.faults shelf.old name.now) (S.faults shelf.new name.now))
+        due.status due.text.items)) }
     ensures told { (n : List ℕ) → S.told shelf.new n ≡ S.told shelf.old n }
     ensures counts { (n : List ℕ) → S.faults shelf.old n ≤ S.faults shelf.new n }
 {
@@ -53,7 +57,8 @@ fn stated_cert(alloc: Global, case: &Case, bytes: &[u8]) -> Result<Cert, Answer>
     requires { length bytes.now ≤ 4194304 }
     ensures fits { IfOk result (λ cert. Fits case.now cert) }
     ensures states { IfOk result (λ cert. cert_of_bytes case.now bytes.now ≡ Ok cert) }
-    ensures refused { IfErr result (λ answer. IfOk answer (λ due. RefusesCert (cert_of_bytes case.now bytes.now) due.status due.text.items)) }
+    ensures refused { IfErr result (λ answer. IfOk answer
+        (λ due. RefusesCert (cert_of_bytes case.now bytes.now) due.status due.text.items)) }
 {
     match read_cert(alloc, case, bytes) {
         Ok(cert) => Ok(cert),
@@ -71,7 +76,10 @@ pub(crate) fn cert_under<S: Shelf>(
 ) -> Result<Cert, Answer>
     ensures fits { IfOk result (λ cert. Fits case.now cert) }
     ensures states { IfOk result (λ cert. CertUnder (S.told shelf.old name.now) case.now cert) }
-    ensures ends { IfErr result (λ answer. IfOk answer (λ due. EndsAtCert case.now (S.told shelf.old name.now) (Rose (S.faults shelf.old name.now) (S.faults shelf.new name.now)) due.status due.text.items)) }
+    ensures ends { IfErr result (λ answer. IfOk answer
+        (λ due. EndsAtCert case.now (S.told shelf.old name.now)
+        (Rose (S.faults shelf.old name.now) (S.faults shelf.new name.now))
+        due.status due.text.items)) }
     ensures counts { (n : List ℕ) → S.faults shelf.old n ≤ S.faults shelf.new n }
 {
     match read_all(alloc, shelf, name, FILE_LIMIT) {

@@ -21,7 +21,9 @@ mod words;
 
 /// What `margin` owes on the case under a name.
 fn margin<S: Shelf>(alloc: Global, shelf: &mut S, name: &str) -> Answer
-    ensures owes { IfOk result (λ due. Owes (S.told shelf.old) (λ n. Rose (S.faults shelf.old n) (S.faults shelf.new n)) (Some (Margin name.now)) due.status due.text.items) }
+    ensures owes { IfOk result (λ due. Owes (S.told shelf.old)
+        (λ n. Rose (S.faults shelf.old n) (S.faults shelf.new n)) (Some (Margin name.now))
+        due.status due.text.items) }
     ensures counts { (n : List ℕ) → S.faults shelf.old n ≤ S.faults shelf.new n }
 {
     match case_under(alloc, shelf, name) {
@@ -32,7 +34,9 @@ fn margin<S: Shelf>(alloc: Global, shelf: &mut S, name: &str) -> Answer
 
 /// What `check` owes on the case and the certificate under two names.
 fn check<S: Shelf>(alloc: Global, shelf: &mut S, case_name: &str, cert_name: &str) -> Answer
-    ensures owes { IfOk result (λ due. Owes (S.told shelf.old) (λ n. Rose (S.faults shelf.old n) (S.faults shelf.new n)) (Some (Check case_name.now cert_name.now)) due.status due.text.items) }
+    ensures owes { IfOk result (λ due. Owes (S.told shelf.old)
+        (λ n. Rose (S.faults shelf.old n) (S.faults shelf.new n))
+        (Some (Check case_name.now cert_name.now)) due.status due.text.items) }
     ensures counts { (n : List ℕ) → S.faults shelf.old n ≤ S.faults shelf.new n }
 {
     let case = match case_under(alloc, shelf, case_name) {
@@ -48,7 +52,9 @@ fn check<S: Shelf>(alloc: Global, shelf: &mut S, case_name: &str, cert_name: &st
 
 /// What the words owe.
 fn due<S: Shelf>(alloc: Global, words: &Vec<String>, shelf: &mut S) -> Answer
-    ensures owes { IfOk result (λ due. Owes (S.told shelf.old) (λ n. Rose (S.faults shelf.old n) (S.faults shelf.new n)) (command_of (words_of words.now.items)) due.status due.text.items) }
+    ensures owes { IfOk result (λ due. Owes (S.told shelf.old)
+        (λ n. Rose (S.faults shelf.old n) (S.faults shelf.new n))
+        (command_of (words_of words.now.items)) due.status due.text.items) }
     ensures counts { (n : List ℕ) → S.faults shelf.old n ≤ S.faults shelf.new n }
 {
     match words::command_of(words) {
@@ -79,18 +85,28 @@ pub fn core_call<S: Shelf, K: Sink>(
     // For every book of one future that is read: an admissible calendar whose worst loss no admissible calendar
     // undercuts, with its loss and weights that show it, or weights showing that no calendar is admissible; the text is
     // read as this certificate, and no place of its check fails. Otherwise a named cause.
-    ensures margin { MarginOwes (around (S.told shelf.old) (S.faults shelf.old) (S.faults shelf.new) (K.faults sink.old) (K.faults sink.new) (K.written sink.old) (K.written sink.new)) (words_of words.now.items) result }
+    ensures margin { MarginOwes (around (S.told shelf.old) (S.faults shelf.old) (S.faults shelf.new)
+        (K.faults sink.old) (K.faults sink.new) (K.written sink.old) (K.written sink.new))
+        (words_of words.now.items) result }
 
     // For every case: what an accepted certificate states is so, whoever made it. The calendar is admissible and no
     // admissible calendar undercuts its worst loss, or no calendar is admissible. Otherwise a named cause.
-    ensures check { CheckOwes (around (S.told shelf.old) (S.faults shelf.old) (S.faults shelf.new) (K.faults sink.old) (K.faults sink.new) (K.written sink.old) (K.written sink.new)) (words_of words.now.items) result }
+    ensures check { CheckOwes (around (S.told shelf.old) (S.faults shelf.old) (S.faults shelf.new)
+        (K.faults sink.old) (K.faults sink.new) (K.written sink.old) (K.written sink.new))
+        (words_of words.now.items) result }
 
     // Each answer comes exactly where it is due, and where nothing failed it is due by the words and the bytes alone.
-    ensures exact { IsExact (around (S.told shelf.old) (S.faults shelf.old) (S.faults shelf.new) (K.faults sink.old) (K.faults sink.new) (K.written sink.old) (K.written sink.new)) (words_of words.now.items) result }
-    ensures complete { IsComplete (around (S.told shelf.old) (S.faults shelf.old) (S.faults shelf.new) (K.faults sink.old) (K.faults sink.new) (K.written sink.old) (K.written sink.new)) (words_of words.now.items) result }
+    ensures exact { IsExact (around (S.told shelf.old) (S.faults shelf.old) (S.faults shelf.new)
+        (K.faults sink.old) (K.faults sink.new) (K.written sink.old) (K.written sink.new))
+        (words_of words.now.items) result }
+    ensures complete { IsComplete (around (S.told shelf.old) (S.faults shelf.old)
+        (S.faults shelf.new) (K.faults sink.old) (K.faults sink.new)
+        (K.written sink.old) (K.written sink.new)) (words_of words.now.items) result }
 
     // Causes that hold whatever the shelf tells.
-    ensures causes { HasCauses (around (S.told shelf.old) (S.faults shelf.old) (S.faults shelf.new) (K.faults sink.old) (K.faults sink.new) (K.written sink.old) (K.written sink.new)) (words_of words.now.items) result }
+    ensures causes { HasCauses (around (S.told shelf.old) (S.faults shelf.old) (S.faults shelf.new)
+        (K.faults sink.old) (K.faults sink.new) (K.written sink.old) (K.written sink.new))
+        (words_of words.now.items) result }
 {
     match due(alloc, words, shelf) {
         Err(_) => 8,
@@ -100,6 +116,3 @@ pub fn core_call<S: Shelf, K: Sink>(
         },
     }
 }
-
-#[cfg(test)]
-mod tests;

@@ -151,7 +151,8 @@ fn no_weight(alloc: Global, case: &Case) -> Result<Numbers, AllocError>
 
 /// Weights that refuse every calendar, of which the limit's is given.
 fn refusal(alloc: Global, case: &Case, limit: i128) -> Result<Cert, AllocError>
-    ensures { IfOk result (λ cert. cert ≡ Cannot (weights_over_one (no_weight case.now) limit (pos 1))) }
+    ensures { IfOk result (λ cert. cert ≡ Cannot
+        (weights_over_one (no_weight case.now) limit (pos 1))) }
 {
     let scenario = no_weight(alloc, case)?;
     let weights = weights(alloc, scenario, limit, 1)?;
@@ -163,7 +164,8 @@ fn closing(alloc: Global, case: &Case, loss: i128, day: u8, full: i128) -> Resul
     requires kept { IsCase case.now }
     requires one { IsOneFuture case.now }
     requires day { day ≤ case.now.last }
-    ensures { IfOk result (λ cert. cert ≡ closes_with case.now loss (weights_over_one (weight_on case.now day) (pos 0) full)) }
+    ensures { IfOk result (λ cert. cert ≡ closes_with case.now loss
+        (weights_over_one (weight_on case.now day) (pos 0) full)) }
 {
     let amounts = single(alloc, i128::from(case.line(0).amount))?;
     let mut scenario = no_weight(alloc, case)?;

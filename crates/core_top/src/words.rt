@@ -14,7 +14,8 @@ pub(crate) enum Command<'a> {
 /// The command of two words.
 fn command_of_two<'a>(verb: &str, case: &'a str) -> Option<Command<'a>>
     ensures none { IfNone result (command_of_two verb.now case.now ≡ None) }
-    ensures some { IfSome result (λ command. command_of_two verb.now case.now ≡ Some (command_told command)) }
+    ensures some { IfSome result (λ command. command_of_two verb.now case.now
+        ≡ Some (command_told command)) }
 {
     if verb == "margin" && !case.is_empty() {
         Some(Command::Margin { case })
@@ -26,7 +27,8 @@ fn command_of_two<'a>(verb: &str, case: &'a str) -> Option<Command<'a>>
 /// The command of three words.
 fn command_of_three<'a>(verb: &str, case: &'a str, cert: &'a str) -> Option<Command<'a>>
     ensures none { IfNone result (command_of_three verb.now case.now cert.now ≡ None) }
-    ensures some { IfSome result (λ command. command_of_three verb.now case.now cert.now ≡ Some (command_told command)) }
+    ensures some { IfSome result (λ command. command_of_three verb.now case.now cert.now
+        ≡ Some (command_told command)) }
 {
     if verb == "check" && !case.is_empty() && !cert.is_empty() {
         Some(Command::Check { case, cert })
@@ -38,7 +40,8 @@ fn command_of_three<'a>(verb: &str, case: &'a str, cert: &'a str) -> Option<Comm
 /// The command that the words are, none where they are none.
 pub(crate) fn command_of(words: &Vec<String>) -> Option<Command>
     ensures none { IfNone result (command_of (words_of words.now.items) ≡ None) }
-    ensures some { IfSome result (λ command. command_of (words_of words.now.items) ≡ Some (command_told command)) }
+    ensures some { IfSome result (λ command. command_of (words_of words.now.items)
+        ≡ Some (command_told command)) }
 {
     match words.as_slice() {
         [verb, case] => command_of_two(verb.as_str(), case.as_str()),

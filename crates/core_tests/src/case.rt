@@ -1,5 +1,8 @@
-use super::{Case, CaseFault, Kind, Side, read_case};
-use jiff::civil::{Date, date};
+// Reading a case.
+use crate::books::{BOOK, SMALL};
+use core_case::{Case, CaseFault, Kind, Side, read_case};
+use core_rows::day_text;
+use jiff::civil::date;
 use std::alloc::Global;
 use std::process::Abort;
 use std::test::Fail;
@@ -8,8 +11,9 @@ use std::test::Fail;
 #[derive(Drop)]
 struct Stated<'a> {
     text: &'a str,
-    start: Date,
-    market: usize,
+    start: &'a str,
+    /// Whether the instrument's market is open, by house day.
+    open: &'a [bool],
     instrument: &'a [u8],
     mult: i64,
     delay: u8,
@@ -21,16 +25,54 @@ struct Stated<'a> {
     amount: i64,
 }
 
-const TEXT: &str =
-    "core,1\nhouse,2024-01-01,1,2\nmarket,MKT\ninstr,IND,future,MKT,1,1,1\nlimit,IND,10\n\
-    scenario,DOWN\npath,DOWN,IND,100,90,90\nposition,IND,10\nend\n";
+const FIRST: Stated = Stated {
+    text: SMALL,
+    start: "2024-01-01",
+    open: &[true; 3],
+    instrument: b"IND",
+    mult: 1,
+    delay: 1,
+    lag: 1,
+    limit: 10,
+    scenario: b"DOWN",
+    prices: &[100, 90, 90],
+    sign: 1,
+    amount: 10,
+};
 
-const LEAST: &str =
-    "core,1\nhouse,1900-01-01,1,1\nmarket,M\ninstr,A,future,HOUSE,1000000,20,0\nlimit,A,0\n\
-    scenario,S\npath,S,A,-1000000000000,1000000000000\nposition,A,-1000000000\nend\n";
+/// The least numbers, and an instrument of the house beside a market with a holiday.
+const LEAST: Stated = Stated {
+    text: "core,1\nhouse,1900-01-01,1,1\nmarket,M\nholiday,M,1900-01-02\ninstr,A,future,HOUSE,1000000,20,0\nlimit,A,0\n\
+        scenario,S\npath,S,A,-1000000000000,1000000000000\nposition,A,-1000000000\nend\n",
+    start: "1900-01-01",
+    open: &[true; 2],
+    instrument: b"A",
+    mult: 1_000_000,
+    delay: 20,
+    lag: 0,
+    limit: 0,
+    scenario: b"S",
+    prices: &[-1_000_000_000_000, 1_000_000_000_000],
+    sign: -1,
+    amount: 1_000_000_000,
+};
 
-const LATE: &str = "core,1\nhouse,2200-12-31,1,3\nmarket,EUREX\ninstr,FDAX,future,EUREX,25,3,10\n\
-    limit,FDAX,1000000000\nscenario,UP10\npath,UP10,FDAX,0,1,-2,3\nposition,FDAX,1\nend\n";
+/// The latest start, and an instrument of the market with the holiday.
+const LATE: Stated = Stated {
+    text: "core,1\nhouse,2200-12-31,1,3\nmarket,EUREX\nholiday,EUREX,2201-01-01\ninstr,FDAX,future,EUREX,25,3,10\n\
+        limit,FDAX,1000000000\nscenario,UP10\npath,UP10,FDAX,0,1,-2,3\nposition,FDAX,1\nend\n",
+    start: "2200-12-31",
+    open: &[true, false, true, true],
+    instrument: b"FDAX",
+    mult: 25,
+    delay: 3,
+    lag: 10,
+    limit: 1_000_000_000,
+    scenario: b"UP10",
+    prices: &[0, 1, -2, 3],
+    sign: 1,
+    amount: 1,
+};
 
 /// The last house day is 41, where 40 is the latest.
 const LONG: &str =
@@ -39,8 +81,8 @@ const LONG: &str =
     position,IND,10\nend\n";
 
 fn check_frame(rt: &impl Abort, case: &Case, stated: &Stated) {
-    assert_eq!(rt; case.date(0), stated.start);
-    assert_eq!(rt; case.book.markets.as_slice(), [stated.market].as_slice());
+    assert_eq!(rt; Some(case.date(0)), day_text(stated.start.as_bytes()));
+    assert_eq!(rt; case.markets(), 2);
     assert_eq!(rt; (case.horizon(), case.pools(), case.members()), (1, 0, 0));
 }
 
@@ -76,55 +118,15 @@ fn check_days(rt: &impl Abort, case: &Case, stated: &Stated) {
             stated.prices.get(t as usize),
             "on day {t}"
         );
+        let open = Some(&case.is_open(0, t));
+        assert_eq!(rt; open, stated.open.get(t as usize), "on day {t}");
         assert_eq!(rt; case.cash(t), 0, "on day {t}");
     }
 }
 
 #[test]
 fn reads_what_the_text_states(rt: HostRuntime) -> Result<(), Fail> {
-    let first = Stated {
-        text: TEXT,
-        start: date(2024, 1, 1),
-        market: 1,
-        instrument: b"IND",
-        mult: 1,
-        delay: 1,
-        lag: 1,
-        limit: 10,
-        scenario: b"DOWN",
-        prices: &[100, 90, 90],
-        sign: 1,
-        amount: 10,
-    };
-    let least = Stated {
-        text: LEAST,
-        start: date(1900, 1, 1),
-        market: 0,
-        instrument: b"A",
-        mult: 1_000_000,
-        delay: 20,
-        lag: 0,
-        limit: 0,
-        scenario: b"S",
-        prices: &[-1_000_000_000_000, 1_000_000_000_000],
-        sign: -1,
-        amount: 1_000_000_000,
-    };
-    let late = Stated {
-        text: LATE,
-        start: date(2200, 12, 31),
-        market: 1,
-        instrument: b"FDAX",
-        mult: 25,
-        delay: 3,
-        lag: 10,
-        limit: 1_000_000_000,
-        scenario: b"UP10",
-        prices: &[0, 1, -2, 3],
-        sign: 1,
-        amount: 1,
-    };
-    for stated in [&first, &least, &late] {
+    for stated in [&FIRST, &LEAST, &LATE] {
         assert!(rt; stated.text.len() <= 4_194_304);
         let case = read_case(rt.alloc(), stated.text.as_bytes())?;
         check_frame(&rt, &case, stated);
@@ -154,6 +156,7 @@ fn check_bad(rt: &impl Abort, alloc: Global, text: &str, row: u32, code: u8) {
 fn the_first_fault_is_answered(rt: HostRuntime) -> Result<(), Fail> {
     check_bad(&rt, rt.alloc(), "", 1, 1);
     check_bad(&rt, rt.alloc(), MANY, 11, 13);
+    check_bad(&rt, rt.alloc(), LONG, 2, 10);
     for (old, new, row, code) in [
         ("core,1\n", "core,7\n", 1, 2),
         ("core,1\n", "core\n", 1, 5),
@@ -179,32 +182,11 @@ fn the_first_fault_is_answered(rt: HostRuntime) -> Result<(), Fail> {
         ("end\n", "", 9, 17),
         ("end\n", "end\ncash,0,1\n", 10, 16),
     ] {
-        let changed = TEXT.replace(rt.alloc(), old, new)?;
+        let changed = SMALL.replace(rt.alloc(), old, new)?;
         check_bad(&rt, rt.alloc(), changed.as_str(), row, code);
     }
     Ok(())
 }
-
-/// A book of five instruments in two markets, of which one has a holiday.
-const BOOK: &str = "core,1\nhouse,2024-04-29,5,7\nmarket,BR\nmarket,US\nholiday,BR,2024-05-01\n\
-    instr,IDX1,future,BR,1,1,1\ninstr,IDX2,future,US,5,1,1\ninstr,RATE,future,BR,10,1,1\n\
-    instr,SHARE,security,BR,1,1,2\ninstr,BOND,security,BR,1,2,1\nlimit,IDX1,100,100,100,100,100\n\
-    limit,IDX2,20,20,20,20,20\nlimit,RATE,50,50,50,50,50\nlimit,SHARE,200,200,200,200,200\n\
-    limit,BOND,30,30,30,30,30\npool,EQ,250\nmember,EQ,IDX1,1\nmember,EQ,SHARE,1\nscenario,CRASH\n\
-    path,CRASH,IDX1,1200,1150,1150,1100,1080,1070,1070,1070\n\
-    path,CRASH,IDX2,500,490,485,480,478,476,476,476\npath,CRASH,RATE,90,91,91,92,93,94,94,94\n\
-    path,CRASH,SHARE,30,28,28,26,25,24,24,24\npath,CRASH,BOND,100,99,99,98,97,96,96,96\nscenario,RALLY\n\
-    path,RALLY,IDX1,1200,1220,1220,1240,1250,1260,1260,1260\n\
-    path,RALLY,IDX2,500,510,515,520,525,530,530,530\npath,RALLY,RATE,90,89,89,88,88,87,87,87\n\
-    path,RALLY,SHARE,30,31,31,32,32,33,33,33\npath,RALLY,BOND,100,100,100,100,100,100,100,100\n\
-    scenario,TWIST\npath,TWIST,IDX1,1200,1180,1180,1170,1160,1150,1150,1150\n\
-    path,TWIST,IDX2,500,505,510,515,515,515,515,515\npath,TWIST,RATE,90,92,92,93,93,93,93,93\n\
-    path,TWIST,SHARE,30,29,29,28,28,27,27,27\npath,TWIST,BOND,100,98,98,97,96,95,95,95\nscenario,FLAT\n\
-    path,FLAT,IDX1,1200,1200,1200,1200,1200,1200,1200,1200\n\
-    path,FLAT,IDX2,500,500,500,500,500,500,500,500\npath,FLAT,RATE,90,90,90,90,90,90,90,90\n\
-    path,FLAT,SHARE,30,30,30,30,30,30,30,30\npath,FLAT,BOND,100,100,100,100,100,100,100,100\n\
-    position,IDX1,300\nposition,IDX2,-40\nposition,RATE,-100\nposition,SHARE,400\ncollateral,BOND,50\n\
-    cash,0,1000\ncash,7,-8000\nend\n";
 
 /// On which of the house days 0 to 7 something is paid, by the day on which it happens; 9 is none.
 fn pay_days(case: &Case, i: usize) -> [u8; 8] {

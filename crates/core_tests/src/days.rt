@@ -1,4 +1,5 @@
-use super::{house_days, open_flags, pay_day};
+// House days, open days and pay days.
+use core_days::{house_days, open_flags, pay_day};
 use jiff::civil::date;
 use std::test::Fail;
 

@@ -1,5 +1,6 @@
-use super::*;
-use jiff::civil::Date;
+// Records, the grammars of fields, and printed rows.
+use core_rows::{Fields, day_text, name_of, put_row, records, whole, wide};
+use jiff::civil::{Date, date};
 use std::alloc::{AllocError, Global};
 use std::test::Fail;
 
@@ -98,4 +99,22 @@ fn reads_dates(rt: HostRuntime) {
     for field in none {
         assert!(rt; day_text(field).is_none());
     }
+}
+
+#[test]
+fn rows_are_printed(rt: HostRuntime) -> Result<(), Fail> {
+    let mut first = Fields::make(rt.alloc());
+    first.push(b"amount")?;
+    first.push_number(0)?;
+    first.push_number(-14)?;
+    first.push_number(-170141183460469231731687303715884105727)?;
+    first.push_date(date(2024, 4, 26))?;
+    let mut second = Fields::make(rt.alloc());
+    second.push(b"end")?;
+    let mut out = Vec::new(rt.alloc());
+    put_row(rt.alloc(), &mut out, &first)?;
+    put_row(rt.alloc(), &mut out, &second)?;
+    let text = b"amount,0,-14,-170141183460469231731687303715884105727,2024-04-26\nend\n";
+    assert_eq!(rt; out.as_slice(), text.as_slice());
+    Ok(())
 }

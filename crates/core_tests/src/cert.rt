@@ -1,20 +1,14 @@
-use super::{CertFault, read_cert, write_cert};
+// The text of a certificate.
+use crate::books::{
+    BOOK, DIP, LIMIT_OF_NINE, LIMIT_REFUSAL, NO_DAY_REFUSAL, SMALL, SMALL_CLOSING, SWING,
+    TWO_SCENARIOS, TWO_SCENARIOS_CLOSING,
+};
 use core_case::{Case, CaseFault, read_case};
+use core_cert::{CertFault, read_cert, write_cert};
 use core_model::Cert;
 use std::alloc::Global;
 use std::process::Abort;
 use std::test::Fail;
-
-/// One future, one scenario and one position, with one closing day.
-const SMALL: &str =
-    "core,1\nhouse,2024-01-01,1,2\nmarket,MKT\ninstr,IND,future,MKT,1,1,1\nlimit,IND,10\n\
-    scenario,DOWN\npath,DOWN,IND,100,90,90\nposition,IND,10\nend\n";
-
-const CLOSING: &str =
-    "cert,1\ncloses,1\namount,IND,position,1,10\nloss,100\nmargin,100\nweights,1\n\
-    scenario,DOWN,2,1\nfull,IND,position,10\nend\n";
-
-const REFUSAL: &str = "cert,1\ncannot\nweights,1\nlimit,IND,1,1\nfull,IND,position,1\nend\n";
 
 const SCENARIO_IN_REFUSAL: &str =
     "cert,1\ncannot\nweights,1\nscenario,DOWN,1,1\nfull,IND,position,1\nend\n";
@@ -60,16 +54,6 @@ const SMALL_LIMITS_REFUSAL: &str =
     "cert,1\ncannot\nweights,1\nlimit,IND,1,1\nlimit,IND,2,1\nlimit,IND,3,1\nlimit,IND,4,1\n\
     limit,IND,5,1\nfull,IND,position,1\nend\n";
 
-/// Two scenarios that are equally bad under the best calendar, which closes by ninths.
-const TWO_SCENARIOS: &str =
-    "core,1\nhouse,2024-01-01,2,3\nmarket,MKT\ninstr,SHR,security,MKT,1,1,0\nlimit,SHR,1,1\n\
-    scenario,A\npath,A,SHR,8,8,2,2\nscenario,B\npath,B,SHR,3,3,6,6\nposition,SHR,1\n\
-    cash,3,-10\nend\n";
-
-const TWO_SCENARIOS_CLOSING: &str =
-    "cert,1\ncloses,9\namount,SHR,position,1,4\namount,SHR,position,2,5\nloss,48\nmargin,48\n\
-    weights,3\nscenario,A,3,1\nscenario,B,3,2\nfull,SHR,position,-14\nend\n";
-
 /// A position that needs the limits of both days.
 const BOTH_DAYS: &str =
     "core,1\nhouse,2024-01-01,2,3\nmarket,MKT\ninstr,IND,future,MKT,1,1,1\nlimit,IND,10,10\n\
@@ -78,11 +62,6 @@ const BOTH_DAYS: &str =
 const BOTH_DAYS_CLOSING: &str =
     "cert,1\ncloses,1\namount,IND,position,1,10\namount,IND,position,2,10\nloss,150\n\
     margin,150\nweights,1\nscenario,DOWN,3,1\nlimit,IND,1,5\nfull,IND,position,10\nend\n";
-
-/// The price falls and recovers.
-const DIP: &str =
-    "core,1\nhouse,2024-01-01,2,3\nmarket,MKT\ninstr,IND,future,MKT,1,1,1\nlimit,IND,10,10\n\
-    scenario,DIP\npath,DIP,IND,100,90,105,105\nposition,IND,20\nend\n";
 
 const DIP_CLOSING: &str =
     "cert,1\ncloses,1\namount,IND,position,1,10\namount,IND,position,2,10\nloss,200\n\
@@ -116,8 +95,6 @@ const NO_PAY_DAY: &str =
     "core,1\nhouse,2024-01-01,1,1\nmarket,MKT\ninstr,IND,future,MKT,1,1,1\nlimit,IND,10\n\
     scenario,DOWN\npath,DOWN,IND,100,90\nposition,IND,10\nend\n";
 
-const NO_DAY_REFUSAL: &str = "cert,1\ncannot\nweights,1\nfull,IND,position,1\nend\n";
-
 /// Two instruments in a pool that is too small for both.
 const SMALL_POOL: &str = "core,1\nhouse,2024-01-01,1,1\nmarket,MKT\ninstr,A,future,MKT,1,1,0\n\
     instr,B,future,MKT,1,1,0\nlimit,A,10\nlimit,B,10\npool,POOL,15\nmember,POOL,A,1\n\
@@ -136,47 +113,11 @@ const SHORT_CLOSING: &str =
     "cert,1\ncloses,1\namount,SHR,position,1,1\nloss,11\nmargin,11\nweights,1\n\
     scenario,UP,2,1\nfull,SHR,position,11\nend\n";
 
-/// A limit of one contract too few.
-const LIMIT_OF_NINE: &str =
-    "core,1\nhouse,2024-01-01,1,2\nmarket,MKT\ninstr,IND,future,MKT,1,1,1\nlimit,IND,9\n\
-    scenario,DOWN\npath,DOWN,IND,100,90,90\nposition,IND,10\nend\n";
-
-/// Numbers of 39 digits.
-const SWING: &str =
-    "core,1\nhouse,2024-01-01,2,3\nmarket,MKT\ninstr,IND,future,MKT,1,1,1\nlimit,IND,0,10\n\
-    scenario,SWING\npath,SWING,IND,0,-1000000000000,1000000000000,0\nposition,IND,10\nend\n";
-
 const SWING_CLOSING: &str = "cert,1\ncloses,10000000000000000000000000\n\
     amount,IND,position,2,100000000000000000000000000\n\
     loss,100000000000000000000000000000000000000\n\
     margin,100000000000000000000000000000000000000\nweights,1\nscenario,SWING,2,1\n\
     full,IND,position,1000000000000\nend\n";
-
-/// A book of five instruments with a pool, a holiday and four scenarios.
-const BOOK: &str = "core,1\nhouse,2024-04-29,5,7\nmarket,BR\nmarket,US\nholiday,BR,2024-05-01\n\
-    instr,IDX1,future,BR,1,1,1\ninstr,IDX2,future,US,5,1,1\ninstr,RATE,future,BR,10,1,1\n\
-    instr,SHARE,security,BR,1,1,2\ninstr,BOND,security,BR,1,2,1\n\
-    limit,IDX1,100,100,100,100,100\nlimit,IDX2,20,20,20,20,20\nlimit,RATE,50,50,50,50,50\n\
-    limit,SHARE,200,200,200,200,200\nlimit,BOND,30,30,30,30,30\npool,EQ,250\n\
-    member,EQ,IDX1,1\nmember,EQ,SHARE,1\nscenario,CRASH\n\
-    path,CRASH,IDX1,1200,1150,1150,1100,1080,1070,1070,1070\n\
-    path,CRASH,IDX2,500,490,485,480,478,476,476,476\n\
-    path,CRASH,RATE,90,91,91,92,93,94,94,94\npath,CRASH,SHARE,30,28,28,26,25,24,24,24\n\
-    path,CRASH,BOND,100,99,99,98,97,96,96,96\nscenario,RALLY\n\
-    path,RALLY,IDX1,1200,1220,1220,1240,1250,1260,1260,1260\n\
-    path,RALLY,IDX2,500,510,515,520,525,530,530,530\n\
-    path,RALLY,RATE,90,89,89,88,88,87,87,87\npath,RALLY,SHARE,30,31,31,32,32,33,33,33\n\
-    path,RALLY,BOND,100,100,100,100,100,100,100,100\nscenario,TWIST\n\
-    path,TWIST,IDX1,1200,1180,1180,1170,1160,1150,1150,1150\n\
-    path,TWIST,IDX2,500,505,510,515,515,515,515,515\n\
-    path,TWIST,RATE,90,92,92,93,93,93,93,93\npath,TWIST,SHARE,30,29,29,28,28,27,27,27\n\
-    path,TWIST,BOND,100,98,98,97,96,95,95,95\nscenario,FLAT\n\
-    path,FLAT,IDX1,1200,1200,1200,1200,1200,1200,1200,1200\n\
-    path,FLAT,IDX2,500,500,500,500,500,500,500,500\npath,FLAT,RATE,90,90,90,90,90,90,90,90\n\
-    path,FLAT,SHARE,30,30,30,30,30,30,30,30\n\
-    path,FLAT,BOND,100,100,100,100,100,100,100,100\nposition,IDX1,300\nposition,IDX2,-40\n\
-    position,RATE,-100\nposition,SHARE,400\ncollateral,BOND,50\ncash,0,1000\ncash,7,-8000\n\
-    end\n";
 
 const BOOK_CLOSING: &str =
     "cert,1\ncloses,1\namount,IDX1,position,1,100\namount,IDX1,position,3,100\n\
@@ -206,7 +147,7 @@ fn check_written_back(rt: &impl Abort, alloc: Global, case: &str, text: &str) ->
 #[test]
 fn calendars_are_written_back(rt: HostRuntime) -> Result<(), Fail> {
     for (case, text) in [
-        (SMALL, CLOSING),
+        (SMALL, SMALL_CLOSING),
         (RISING, RISING_CLOSING),
         (CASH_GAIN, CASH_GAIN_CLOSING),
         (CASH_LOSS, CASH_LOSS_CLOSING),
@@ -237,7 +178,7 @@ fn large_calendars_are_written_back(rt: HostRuntime) -> Result<(), Fail> {
 #[test]
 fn refusals_are_written_back(rt: HostRuntime) -> Result<(), Fail> {
     for (case, text) in [
-        (LIMIT_OF_NINE, REFUSAL),
+        (LIMIT_OF_NINE, LIMIT_REFUSAL),
         (SMALL_LIMITS, SMALL_LIMITS_REFUSAL),
         (CLOSED_MARKET, NO_DAY_REFUSAL),
         (NO_PAY_DAY, NO_DAY_REFUSAL),
@@ -251,8 +192,8 @@ fn refusals_are_written_back(rt: HostRuntime) -> Result<(), Fail> {
 #[test]
 fn a_refusal_is_read(rt: HostRuntime) -> Result<(), Fail> {
     let case = case_of(&rt, rt.alloc(), SMALL)?;
-    assert!(rt; REFUSAL.len() <= 4_194_304);
-    match read_cert(rt.alloc(), &case, REFUSAL.as_bytes())? {
+    assert!(rt; LIMIT_REFUSAL.len() <= 4_194_304);
+    match read_cert(rt.alloc(), &case, LIMIT_REFUSAL.as_bytes())? {
         Cert::Closes { .. } => assert!(rt; false, "it closes"),
         Cert::Cannot { weights } => {
             assert_eq!(rt; weights.den, 1);
@@ -300,7 +241,7 @@ fn the_first_fault_is_answered(rt: HostRuntime) -> Result<(), Fail> {
         ("end\n", "end\nend\n", 10, 14),
         ("end\n", "", 9, 15),
     ] {
-        let changed = CLOSING.replace(rt.alloc(), old, new)?;
+        let changed = SMALL_CLOSING.replace(rt.alloc(), old, new)?;
         check_bad(&rt, rt.alloc(), &case, changed.as_str(), row, code);
     }
     Ok(())

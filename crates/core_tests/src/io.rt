@@ -1,4 +1,5 @@
-use crate::{
+// Shelves and sinks.
+use core_io::{
     Failed, FileShelf, MemShelf, MemSink, OutSink, ReadAll, Shelf, ShelfFault, Sink, read_all,
     write_all,
 };

@@ -1,4 +1,5 @@
-use super::Numbers;
+// Lists of numbers.
+use core_model::Numbers;
 use std::test::Fail;
 
 #[test]

@@ -1,13 +1,10 @@
+// What a unit of a line pays, and the fixed cash.
 ghost use Rattle.std.specs.Prelude.{◌≡◌};
 
-use super::{Flows, law_of_units};
+use crate::books::DIP;
 use core_case::{Case, read_case};
+use core_flows::{Flows, law_of_units};
 use std::test::Fail;
-
-/// A long future whose price dips on day 1, marked a day later.
-const DIPPING: &str =
-    "core,1\nhouse,2024-01-01,2,3\nmarket,MKT\ninstr,IND,future,MKT,1,1,1\nlimit,IND,10,10\n\
-    scenario,DIP\npath,DIP,IND,100,90,105,105\nposition,IND,20\nend\n";
 
 /// A short future whose market is closed on day 2, 2024-01-03.
 const INTERRUPTED: &str = "core,1\nhouse,2024-01-01,3,4\nmarket,MKT\nholiday,MKT,2024-01-03\n\
@@ -48,7 +45,7 @@ fn fixed_to(case: &Case, flows: &Flows, day: u8) -> Option<i128>
 
 #[test]
 fn a_future_is_marked_up_to_the_last_price_that_is_paid(rt: HostRuntime) -> Result<(), Fail> {
-    let case = read_case(rt.alloc(), DIPPING.as_bytes())?;
+    let case = read_case(rt.alloc(), DIP.as_bytes())?;
     let flows = Flows::make(rt.alloc(), &case)?;
     for (closed, day, paid) in [
         (1, 1, 0),
