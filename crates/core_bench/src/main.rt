@@ -1,15 +1,20 @@
 //! Times what its words name: `core_bench fractions`, or `core_bench reading FILE` and `core_bench flows FILE` for a
 //! file that is a case, or `core_bench certificates FILE CERT` and `core_bench check FILE CERT` for a case and a
-//! certificate of it. It prints nothing without words.
+//! certificate of it, or `core_bench pivots FILE` and `core_bench runs FILE` for a file that is a linear programme in
+//! numbers. It prints nothing without words.
 #![tactic(auto)]
 
 mod calendar;
 mod certificates;
 mod checks;
+mod choice;
 mod clock;
 mod file;
 mod flows;
+mod pivots;
+mod programme;
 mod reading;
+mod runs;
 mod timing;
 
 use anyhow::{Result, bail};
@@ -26,6 +31,8 @@ fn main(rt: HostRuntime) -> Result<()> {
             reading::run(&rt, &mut shelf, file.as_str())
         }
         [name, file] if name.as_str() == "flows" => flows::run(&rt, &mut shelf, file.as_str()),
+        [name, file] if name.as_str() == "pivots" => pivots::run(&rt, &mut shelf, file.as_str()),
+        [name, file] if name.as_str() == "runs" => runs::run(&rt, &mut shelf, file.as_str()),
         [name, file, cert] if name.as_str() == "certificates" => {
             certificates::run(&rt, &mut shelf, file.as_str(), cert.as_str())
         }
@@ -33,7 +40,8 @@ fn main(rt: HostRuntime) -> Result<()> {
             checks::run(&rt, &mut shelf, file.as_str(), cert.as_str())
         }
         _ => bail!(
-            "the words are `fractions`, `reading FILE`, `flows FILE`, `certificates FILE CERT` or `check FILE CERT`"
+            "the words are `fractions`, `reading FILE`, `flows FILE`, `certificates FILE CERT`, `check FILE CERT`, \
+             `pivots FILE` or `runs FILE`"
         ),
     }
 }

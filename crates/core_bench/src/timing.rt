@@ -94,7 +94,11 @@ fn operands<E: Exact>(alloc: Global, num: u64, den: u64) -> std::result::Result<
     Ok(all)
 }
 
-fn numerators<E: Exact>(alloc: Global, all: &[E]) -> std::result::Result<Vec<i128>, AllocError> {
+/// The numerators of fractions.
+pub fn numerators<E: Exact>(
+    alloc: Global,
+    all: &[E],
+) -> std::result::Result<Vec<i128>, AllocError> {
     let mut numbers = Vec::new(alloc);
     for f in all {
         numbers.push(f.num())?;
