@@ -16,7 +16,8 @@ use Rattle.core_model.specs.Fits.{CalendarFits, Fits, IsKept, WeightsFit}
 use Rattle.core_cert.specs.Written.{amount_record, amount_records, cert_text, closing_days, constraint_records, day_record, floored, full_of, full_record, full_records, inner_records, limit_days, limit_records, line_amounts, line_fields, most_bytes, pool_days, pool_records, scenario_days, scenario_on, scenario_records, side_word, word_record}
 use Rattle.core_model.proofs.FewLines.{lines-few}
 use Rattle.core_cert.proofs.Printed.{rows_text-append, rows_text-cons, rows_text-none}
-use Rattle.core_cert.proofs.Size.{at-kept, below-short, days-short, number_text-short, numbered-short, row_text-five, row_text-four, row_text-two, side_word-short}
+use Rattle.core_sums.proofs.Kept.{at-kept}
+use Rattle.core_cert.proofs.Size.{below-short, days-short, number_text-short, numbered-short, row_text-five, row_text-four, row_text-two, side_word-short}
 
 -- a day takes at most two digits
 decimal-short : (day : ℕ) → day < 100 → length (decimal day) ≤ 2

@@ -10,7 +10,7 @@ use Rattle.core_model.specs.Closing.{line_count}
 use Rattle.core_model.specs.Fits.{CalendarFits, WeightsFit}
 use Rattle.core_cert.specs.declared.kinds.RecordKind.TheVariants.{Amount, Scenario, Limit, Pool, Full}
 use Rattle.core_cert.specs.Written.{amount_on, amount_records, full_of, full_records, limit_days, limit_records, line_amounts, line_fields, closing_on, pool_days, pool_records, scenario_days, scenario_on, scenario_records}
-use Rattle.core_cert.proofs.Size.{at-kept}
+use Rattle.core_sums.proofs.Kept.{at-kept}
 use Rattle.core_cert.proofs.RoundTripBlocks.{IsBlock, block-at, block-below, block-days, block-numbered}
 use Rattle.core_cert.proofs.RoundTripRecords.{amount-good, full-good, limit-good, pool-good, scenario-good}
 

@@ -24,13 +24,6 @@ number_text-short (negsuc n) kept =
     let digits : length (decimal (suc n)) ≤ 39 = length-decimal-le_wide 39 (suc n) (lit< tt) (omega (arith, kept)) (omega (arith, kept)) in
     omega (arith, digits)
 
--- a number past the end is 0
-pub at-kept : (xs : List ℤ) (i : ℕ) → All IsKept xs → IsKept (at xs i)
-at-kept xs i all = elim (cases_lt i (length xs)) [
-  | inl under ↦ all i (pos 0) under
-  | inr past ↦ rw (get_or_past xs i (pos 0) past) (omega arith)
-]
-
 -- the bytes of rows of two, four and five fields
 pub row_text-two : (a b : List ℕ) → length (row_text (a ∷ b ∷ [])) ≡ length a + length b + 2
 row_text-two a b = simp length-append (omega arith)

@@ -10,10 +10,8 @@ use Rattle.core_case.specs.Kept.{IsCase, IsLine, IsInstrument}
 use Rattle.core_model.specs.Closing.{size, is_by}
 use Rattle.core_flows.specs.Units.{last_paid, marked_to}
 use Rattle.core_flows.proofs.Telescope.{day_before-le}
-
--- the absolute value of a number between two bounds
-abs-within : (z : ℤ) (n : ℕ) → neg_ℤ (pos n) ≤ℤ z → z ≤ℤ pos n → unsigned_abs z ≤ n
-abs-within z n low high = omega (arith, ints, low, high)
+use Rattle.core_sums.proofs.Kept.{abs-within}
+use Rattle.core_model.proofs.Sizes.{price-within}
 
 -- a line keeps what every line keeps
 line-kept : (c : CaseView) (l : ℕ) → IsCase c → l < length c.lines → IsLine c (line c l)
@@ -36,14 +34,6 @@ size-within c l kept below =
     by_sign : ((line c l).sign ≡ pos 1) ⊎ ((line c l).sign ≡ negsuc 0) → unsigned_abs (line c l).sign ≤ 1
     by_sign (inl up) = rw up (lit≤ tt)
     by_sign (inr down) = rw down (lit≤ tt)
-
--- a price of a house day
-pub price-within : (c : CaseView) (k i t : ℕ) → IsCase c → k < length c.scenarios → i < length c.instruments → t ≤ c.last → unsigned_abs (price c k i t) ≤ 10 ^ 12
-price-within c k i t kept scenario known within =
-    let paths = kept.prices.1 k [] (omega (arith, kept.prices.0, scenario)) in
-    let path = paths.1 i [] (omega (arith, paths.0, known)) in
-    let here = path.1 t (pos 0) (omega (arith, path.0, within)) in
-    abs-within (price c k i t) (10 ^ 12) (omega (arith, ints, here.0)) here.1
 
 -- the change of a price since day 0
 pub change-within : (c : CaseView) (k i t : ℕ) → IsCase c → k < length c.scenarios → i < length c.instruments → t ≤ c.last

@@ -16,10 +16,7 @@ use Rattle.core_cert.specs.Written.{IsPlainlyRefusing}
 use Rattle.core_model.specs.declared.cert.Cert.TheVariants.{Cannot}
 use Rattle.core_top.proofs.OneFutureShows.{both-true, nat_cases}
 use Rattle.core_top.specs.OneFuture.{IsOneFuture, change, gain, mark_day, may_close, limit_takes, weights_over_one, no_weight, weight_on, closes_with, one_future_cert}
-
--- the absolute value of a number between two bounds
-abs-within : (z : ℤ) (n : ℕ) → neg_ℤ (pos n) ≤ℤ z → z ≤ℤ pos n → unsigned_abs z ≤ n
-abs-within z n low high = omega (arith, ints, low, high)
+use Rattle.core_sums.proofs.Kept.{abs-within}
 
 line-kept : (c : CaseView) → IsCase c → IsOneFuture c → IsLine c (line c 0)
 line-kept c kept one = kept.lines.0 0 no_line (omega (arith, one.one_line))

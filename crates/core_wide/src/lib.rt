@@ -40,7 +40,8 @@ pub fn minus(x: i128, y: i128) -> Option<i128>
 
 /// The product, or None where it is above 2^127 - 1 in absolute value.
 pub fn times(x: i128, y: i128) -> Option<i128>
-    ensures { MatchOption result (Leaves (x *ℤ y)) (λ product. (product ≡ x *ℤ y) × Stays (x *ℤ y)) }
+    ensures { MatchOption result (Leaves (x *ℤ y))
+        (λ product. (product ≡ x *ℤ y) × Stays (x *ℤ y)) }
 {
     match x.checked_mul(y) {
         Some(product) if product != i128::MIN => Some(product),

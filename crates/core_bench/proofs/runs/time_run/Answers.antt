@@ -1,6 +1,6 @@
 use Rattle.std.proofs.Common.{sym, subst}
 use Rattle.core_dict.specs.Dictionary.{CostsNotNegative}
-use Rattle.core_bench.proofs.Costs.{start_costs}
+use Rattle.core_dict.proofs.StartCosts.{start_costs}
 use Rattle.core_bench.proofs.runs.time_run.Goals as goal
 
 pub run-answer-requires-clause-costs : goal.run-answer-requires-clause-costs

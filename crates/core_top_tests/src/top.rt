@@ -1,5 +1,5 @@
 // The top call, over a shelf and a sink in memory.
-use crate::books::{LIMIT_OF_NINE, LIMIT_REFUSAL, NO_DAY_REFUSAL, SMALL, SMALL_CLOSING};
+use core_case_tests::books::{LIMIT_OF_NINE, LIMIT_REFUSAL, NO_DAY_REFUSAL, SMALL, SMALL_CLOSING};
 use core_io::{MemShelf, MemSink};
 use core_top::core_call;
 use std::alloc::{AllocError, Global};

@@ -1,9 +1,9 @@
 // The text of a certificate.
-use crate::books::{
+use core_case::{Case, CaseFault, read_case};
+use core_case_tests::books::{
     BOOK, DIP, LIMIT_OF_NINE, LIMIT_REFUSAL, NO_DAY_REFUSAL, SMALL, SMALL_CLOSING, SWING,
     TWO_SCENARIOS, TWO_SCENARIOS_CLOSING,
 };
-use core_case::{Case, CaseFault, read_case};
 use core_cert::{CertFault, read_cert, write_cert};
 use core_model::Cert;
 use std::alloc::Global;

@@ -2,7 +2,7 @@ ghost use Rattle.std.specs.Prelude.{◌≡◌, ◌≤◌, ◌^◌, length, unsig
 ghost use Rattle.core_rules.specs.Candidates.{before, IsRanked};
 ghost use Rattle.core_rules.specs.Kept.{candidate_of, rule_by, rule_view, Keeps};
 
-use super::*;
+use core_rules::{Cand, Ranks, Rule};
 use exact_frac::{Exact, Frac128};
 use std::process::Abort;
 use std::test::Fail;

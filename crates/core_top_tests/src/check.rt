@@ -1,8 +1,10 @@
 // The check of a certificate.
 ghost use Rattle.core_case.specs.Kept.{IsCase};
 
-use crate::books::{LIMIT_OF_NINE, LIMIT_REFUSAL, SMALL, TWO_SCENARIOS, TWO_SCENARIOS_CLOSING};
 use core_case::{Case, read_case};
+use core_case_tests::books::{
+    LIMIT_OF_NINE, LIMIT_REFUSAL, SMALL, TWO_SCENARIOS, TWO_SCENARIOS_CLOSING,
+};
 use core_cert::read_cert;
 use core_check::{CheckFault, check, showing_law, valid_law, weights_bound, weights_refuse};
 use std::alloc::Global;

@@ -1,16 +1,12 @@
-//! The tests of the libraries, a module for each, by their public calls alone.
+//! The tests of the libraries from files and days to the flows of a case, a module for each, by their public calls
+//! alone, and the books that tests of certificates share with them.
 //!
 //! A library with tests of its own would be proved twice, so they all stand here, over what the gate proves once.
 #![tactic(auto)]
 
-#[cfg(test)]
-mod books;
+pub mod books;
 #[cfg(test)]
 mod case;
-#[cfg(test)]
-mod cert;
-#[cfg(test)]
-mod check;
 #[cfg(test)]
 mod days;
 #[cfg(test)]
@@ -20,8 +16,4 @@ mod io;
 #[cfg(test)]
 mod model;
 #[cfg(test)]
-mod replay;
-#[cfg(test)]
 mod rows;
-#[cfg(test)]
-mod top;

@@ -2,8 +2,8 @@
 ghost use Rattle.std.specs.Prelude.{◌≡◌, IfOk};
 ghost use Rattle.core_model.specs.Fits.{CalendarFits};
 
-use crate::books::{BOOK, DIP, SWING};
 use core_case::{Case, read_case};
+use core_case_tests::books::{BOOK, DIP, SWING};
 use core_model::{Calendar, Numbers};
 use core_replay::{ReplayFault, WorstLoss, replay, worst};
 use std::alloc::{AllocError, Global};

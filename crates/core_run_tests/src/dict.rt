@@ -1,7 +1,6 @@
 ghost use Rattle.std.specs.Prelude.{◌≡◌, ◌≤◌, ◌^◌, unsigned_abs};
 
-use super::*;
-use crate::steps::is_zero;
+use core_dict::{Dense, PivotFault, Programme, Store, Widen};
 use exact_frac::{Exact, Frac64, Frac128};
 use std::alloc::{AllocError, Global};
 use std::process::Abort;
@@ -73,7 +72,7 @@ fn pivot<E: Exact, D: Store<E>>(
     col: usize,
 ) -> Result<(), PivotFault> {
     assert!(rt; row < dict.rows() && col < dict.cols());
-    assert!(rt; !is_zero(dict.entry(row, col)));
+    assert!(rt; dict.entry(row, col).num() != 0);
     dict.pivot(alloc, row, col)
 }
 

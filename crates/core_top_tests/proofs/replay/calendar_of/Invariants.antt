@@ -1,5 +1,5 @@
 use Rattle.core_model.specs.Fits.{AreKept}
-use Rattle.core_tests.proofs.replay.calendar_of.Given as goal
+use Rattle.core_top_tests.proofs.replay.calendar_of.Given as goal
 
 abbrev pub invariant-loop-i : goal.invariant-loop-i
 invariant-loop-i l = AreKept l.count l.list

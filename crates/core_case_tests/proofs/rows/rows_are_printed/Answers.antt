@@ -1,7 +1,7 @@
 -- Each field of the first row is plain.
 use Rattle.std.proofs.Common.{codes, negsuc, pos, refl}
 use Rattle.core_rows.proofs.Plain.{date_text-plain, fields-plain-none, number_text-plain, row-plain-push, word-plain}
-use Rattle.core_tests.proofs.rows.rows_are_printed.Goals as goal
+use Rattle.core_case_tests.proofs.rows.rows_are_printed.Goals as goal
 
 pub put_row-requires : goal.put_row-requires
 put_row-requires g c =

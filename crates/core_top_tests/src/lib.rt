@@ -1,0 +1,14 @@
+//! The tests of replays, of certificates and their check, and of the top call, a module for each, by their public
+//! calls alone.
+//!
+//! A library with tests of its own would be proved twice, so they all stand here, over what the gate proves once.
+#![tactic(auto)]
+
+#[cfg(test)]
+mod cert;
+#[cfg(test)]
+mod check;
+#[cfg(test)]
+mod replay;
+#[cfg(test)]
+mod top;
