@@ -1,4 +1,5 @@
-ghost use Rattle.std.specs.Prelude.{◌≡◌, ◌≤◌, ◌^◌, unsigned_abs};
+ghost use Rattle.std.specs.Prelude.{◌≡◌, ◌↔◌, ◌≤◌, ◌^◌, IsTrue, unsigned_abs};
+ghost use Rattle.fractions.specs.Fraction.{zero_q};
 
 use core_dict::{Dense, PivotFault, Programme, Store, Widen};
 use exact_frac::{Exact, Frac64, Frac128};
@@ -64,6 +65,13 @@ fn text_of<E: Exact, D: Store<E>>(alloc: Global, dict: &D) -> Result<String, All
     Ok(text)
 }
 
+// whether a number is 0
+fn is_zero<E: Exact>(x: E) -> bool
+    ensures { IsTrue result ↔ (E.value x ≡ zero_q) }
+{
+    x.sign() == 0
+}
+
 fn pivot<E: Exact, D: Store<E>>(
     rt: &impl Abort,
     alloc: Global,
@@ -72,7 +80,7 @@ fn pivot<E: Exact, D: Store<E>>(
     col: usize,
 ) -> Result<(), PivotFault> {
     assert!(rt; row < dict.rows() && col < dict.cols());
-    assert!(rt; dict.entry(row, col).num() != 0);
+    assert!(rt; !is_zero(dict.entry(row, col)));
     dict.pivot(alloc, row, col)
 }
 
