@@ -29,6 +29,21 @@ pub fn gcd(a: u128, b: u128) -> u128
     x
 }
 
+/// The greatest common divisor of numbers of 64 bits.
+pub fn narrow_gcd(a: u64, b: u64) -> u64
+    requires { 0 < b }
+    ensures value { result ≡ gcd_of a b }
+    ensures positive { 0 < result }
+{
+    if a == 1 || b == 1 {
+        return 1;
+    }
+    if a == b {
+        return b;
+    }
+    binary_gcd(a, b)
+}
+
 // The factors 2 that both have, times what their odd parts share (Stein 1967).
 fn binary_gcd(a: u64, b: u64) -> u64
     requires { 0 < b }
