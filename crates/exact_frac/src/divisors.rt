@@ -65,12 +65,12 @@ fn odd_gcd(a: u64, b: u64) -> u64
 {
     let mut x = a;
     let mut y = b;
-    while x != y {
+    while x != y && y != 1 {
         let difference = x.abs_diff(y);
         y = x.min(y);
         x = odd_part(difference);
     }
-    x
+    y
 }
 
 // The number without its factors 2, which share nothing with an odd number.

@@ -40,13 +40,19 @@ pub fn with_sign(negative: bool, n: u64) -> i64
     if negative { -(n as i64) } else { n as i64 }
 }
 
-/// a / b, rounded down.
+/// a / b, rounded down. It takes no division by 1 or of equal numbers.
 pub fn quotient(a: u64, b: u64) -> u64
     requires { 0 < b }
     ensures value { result ≡ a / b }
     ensures at_most { result ≤ a }
 {
-    if b == 1 { a } else { a / b }
+    if b == 1 {
+        a
+    } else if a == b {
+        1
+    } else {
+        a / b
+    }
 }
 
 /// a times b, or Left exactly where that is above 2^62.
