@@ -10,13 +10,13 @@ use Rattle.core_sums.specs.Places.{row_at}
 use Rattle.core_rows.specs.Names.{Record, field, place_of}
 use Rattle.core_case.specs.declared.kinds.RecordKind.TheVariants.{Instrument, Position, Collateral}
 use Rattle.core_case.specs.declared.faults.RecordFault.TheVariants.{OutOfRange, CollateralOfFuture}
-use Rattle.core_case.specs.declared.parts.Kind.TheVariants as kinds
-use Rattle.core_case.specs.declared.parts.Side.TheVariants as sides
+use Rattle.core_book.specs.declared.parts.Kind.TheVariants as kinds
+use Rattle.core_book.specs.declared.parts.Side.TheVariants as sides
 use Rattle.core_case.specs.Kinds.{is_kind, number_in}
 use Rattle.core_case.specs.Faults.{first_fault, of_kind, filed, is_filed, is_future, names_future}
-use Rattle.core_case.specs.View.{instrument, no_instrument}
+use Rattle.core_book.specs.View.{instrument, no_instrument}
 use Rattle.core_case.specs.Stated.{case_of, declared_names, instrument_of_record, line_of_record}
-use Rattle.core_case.specs.Kept.{IsIn, IsLine}
+use Rattle.core_book.specs.Kept.{IsIn, IsLine}
 use Rattle.core_case.proofs.Filters.{All-map_filter_at, AllPairs-map_filter_at, find-take}
 use Rattle.core_rows.proofs.FirstStep.{holds-from_none, fails-from_none}
 use Rattle.core_case.proofs.WholeRecords.{same-kind, sound-of, number-between}

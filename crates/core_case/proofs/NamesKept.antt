@@ -12,7 +12,7 @@ use Rattle.core_case.specs.declared.kinds.RecordKind.TheVariants.{Market, Instru
 use Rattle.core_case.specs.Kinds.{is_kind, number_in, key_length}
 use Rattle.core_case.specs.Faults.{first_fault, of_kind, key_of, filed, is_declared, is_keyed, house_name}
 use Rattle.core_case.specs.Stated.{case_of, declared_names, market_names, holidays_of, instrument_of_record, pool_of_record, member_of_record}
-use Rattle.core_case.specs.Kept.{IsIn, IsInstrument, IsMember}
+use Rattle.core_book.specs.Kept.{IsIn, IsInstrument, IsMember}
 use Rattle.core_case.proofs.Filters.{All-map_filter_at, AllPairs-map_filter_at, AllPairs-cons}
 use Rattle.core_case.proofs.WholeRecords.{sound-of, number-between, natural-between}
 use Rattle.core_case.proofs.NamesSound.{same-bytes, bytes-same, named, keys-differ, names-differ, at-most}

@@ -3,10 +3,10 @@ use Rattle.std.proofs.Common.{◌≡◌, sym, ◌∙◌, ap, subst, ℕ, ◌<◌
 use Rattle.core_rows.specs.Names.{Record}
 use Rattle.core_rows.specs.Fields.{records}
 use Rattle.core_case.specs.Faults.{Faulty, first_fault, missing_end}
-use Rattle.core_case.specs.Kept.{IsCase}
+use Rattle.core_book.specs.Kept.{IsCase}
 use Rattle.core_case.specs.Refusals.{IsFault, RefusesBytes}
 use Rattle.core_case.specs.Stated.{case_of, case_of_bytes, case_unless}
-use Rattle.core_case.specs.View.{CaseView}
+use Rattle.core_book.specs.View.{CaseView}
 use Rattle.core_case.specs.Whole.{IsWhole}
 use Rattle.core_case.specs.declared.read.CaseFault.{CaseFault}
 use Rattle.core_case.specs.declared.read.CaseFault.TheVariants.{Bad, NoMemory}

@@ -1,8 +1,8 @@
 -- The case that bytes state keeps what every case keeps.
 use Rattle.std.proofs.Common.{◌≡◌, ℕ, ap, subst, Option, Some, None, Result, Ok, Err, refl}
 use Rattle.core_rows.specs.Fields.{records}
-use Rattle.core_case.specs.View.{CaseView}
-use Rattle.core_case.specs.Kept.{IsCase}
+use Rattle.core_book.specs.View.{CaseView}
+use Rattle.core_book.specs.Kept.{IsCase}
 use Rattle.core_case.specs.Faults.{Faulty, first_fault}
 use Rattle.core_case.specs.Stated.{case_of, case_of_bytes, case_unless}
 use Rattle.core_case.specs.Laws.{StatedCasesAreWhole}

@@ -14,7 +14,7 @@ use Rattle.core_case.specs.declared.kinds.RecordKind.TheVariants.{Instrument, Li
 use Rattle.core_case.specs.declared.forms.Form.{Form}
 use Rattle.core_case.specs.declared.forms.Form.TheVariants.{Version, Name, Number}
 use Rattle.core_case.specs.Kinds.{is_kind, number_in}
-use Rattle.core_case.specs.Kept.{IsIn, AreIn}
+use Rattle.core_book.specs.Kept.{IsIn, AreIn}
 use Rattle.core_case.specs.Faults.{first_fault, form_fault, range_fault, horizon_in, last_in, of_kind, is_filed, filed, has_limit, has_path, is_complete}
 use Rattle.core_case.specs.Stated.{case_of, declared_names, instrument_of_record, numbers_from, limits_of, prices_of}
 use Rattle.core_case.proofs.Filters.{All-filter_at, kept-at, stood-at, found-at, find-take}

@@ -12,13 +12,13 @@ use Rattle.core_case.specs.declared.kinds.RecordKind.TheVariants.{Market, Holida
 use Rattle.core_case.specs.Kinds.{is_kind, number_in, natural_in}
 use Rattle.core_case.specs.Faults.{Faulty, of_kind, filed, horizon_in, last_in, house_name, is_future, first_fault}
 use Rattle.core_case.specs.Codes.{code_of}
-use Rattle.core_case.specs.View.{CaseView}
-use Rattle.core_case.specs.declared.parts.Kind.TheVariants as kinds
-use Rattle.core_case.specs.declared.parts.Side.TheVariants as sides
-use Rattle.core_case.specs.declared.parts.Instr as instr
-use Rattle.core_case.specs.declared.parts.Line as line
-use Rattle.core_case.specs.declared.parts.Pool as pool
-use Rattle.core_case.specs.declared.parts.Member as member
+use Rattle.core_book.specs.View.{CaseView}
+use Rattle.core_book.specs.declared.parts.Kind.TheVariants as kinds
+use Rattle.core_book.specs.declared.parts.Side.TheVariants as sides
+use Rattle.core_book.specs.declared.parts.Instr as instr
+use Rattle.core_book.specs.declared.parts.Line as line
+use Rattle.core_book.specs.declared.parts.Pool as pool
+use Rattle.core_book.specs.declared.parts.Member as member
 
 -- the names in the first fields of records
 abbrev pub names_in : List Record → List (List ℕ)

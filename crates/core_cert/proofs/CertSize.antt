@@ -6,8 +6,8 @@ use Rattle.core_sums.specs.Places.{at, row_at}
 use Rattle.core_rows.specs.Fields.{IsName, number_text, row_text}
 use Rattle.core_rows.specs.Names.{Record}
 use Rattle.core_rows.specs.Written.{rows_text}
-use Rattle.core_case.specs.View.{CaseView, instrument, instrument_of, line, no_instrument, no_line, no_pool, pool}
-use Rattle.core_case.specs.Kept.{IsCase}
+use Rattle.core_book.specs.View.{CaseView, instrument, instrument_of, line, no_instrument, no_line, no_pool, pool}
+use Rattle.core_book.specs.Kept.{IsCase}
 use Rattle.core_model.specs.declared.cert.Calendar.{Calendar}
 use Rattle.core_model.specs.declared.cert.Weights.{Weights}
 use Rattle.core_model.specs.declared.cert.Cert.{Cert}

@@ -5,7 +5,7 @@ use Rattle.std.specs.List.{prefix_len, position_or_len}
 use Rattle.core_sums.specs.Places.{below}
 use Rattle.core_rows.specs.Names.{Record, field}
 use Rattle.core_rows.proofs.NamePlaces.{position-here, position-past, prefix_len-map}
-use Rattle.core_case.specs.View.{CaseView}
+use Rattle.core_book.specs.View.{CaseView}
 use Rattle.core_model.specs.Closing.{line_count}
 use Rattle.core_cert.specs.Faults.{line_named}
 use Rattle.core_cert.specs.Numbered.{key_words, line_words, lines_words}

@@ -10,10 +10,10 @@ use Rattle.indexmap.specs.IndexSet.{insert_key}
 use Rattle.core_sums.specs.Places.{below}
 use Rattle.core_sums.proofs.Lists.{length-below, get_or-below}
 use Rattle.core_rows.proofs.NamesApart.{inserted}
-use Rattle.core_case.specs.View.{CaseView, instrument, line, instrument_of, no_line, no_instrument}
-use Rattle.core_case.specs.Kept.{IsCase}
-use Rattle.core_case.specs.declared.parts.Side.{Side}
-use Rattle.core_case.specs.declared.parts.Side.TheVariants.{Position, Collateral}
+use Rattle.core_book.specs.View.{CaseView, instrument, line, instrument_of, no_line, no_instrument}
+use Rattle.core_book.specs.Kept.{IsCase}
+use Rattle.core_book.specs.declared.parts.Side.{Side}
+use Rattle.core_book.specs.declared.parts.Side.TheVariants.{Position, Collateral}
 use Rattle.core_model.specs.Closing.{line_count}
 use Rattle.core_cert.specs.Written.{side_word}
 use Rattle.core_cert.specs.Numbered.{key_words, line_words}

@@ -10,7 +10,7 @@ use Rattle.core_sums.specs.Widths.{most}
 use Rattle.core_sums.proofs.Lists.{length-below, get_or-below}
 use Rattle.core_rows.specs.Names.{Record, field}
 use Rattle.core_rows.specs.Fields.{at_most, positive}
-use Rattle.core_case.specs.View.{CaseView}
+use Rattle.core_book.specs.View.{CaseView}
 use Rattle.core_model.specs.Fits.{AreKept, Fits, IsKept}
 use Rattle.core_model.specs.Closing.{line_count}
 use Rattle.core_model.specs.declared.cert.Calendar.{Calendar}

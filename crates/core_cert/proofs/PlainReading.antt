@@ -9,7 +9,7 @@ use Rattle.core_sums.specs.Places.{below}
 use Rattle.core_sums.proofs.Lists.{get_or-below, length-below}
 use Rattle.std.proofs.lemmas.List.{length-map}
 use Rattle.core_rows.specs.Names.{Record, field}
-use Rattle.core_case.specs.View.{CaseView}
+use Rattle.core_book.specs.View.{CaseView}
 use Rattle.core_model.specs.declared.cert.Cert as certs
 use Rattle.core_model.specs.declared.cert.Cert.TheVariants as certs_of
 use Rattle.core_cert.specs.declared.kinds.RecordKind.{RecordKind}

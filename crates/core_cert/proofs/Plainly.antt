@@ -5,8 +5,8 @@ use Rattle.core_rows.specs.Fields.{IsName}
 use Rattle.core_rows.specs.Names.{Record}
 use Rattle.core_rows.specs.Written.{IsPlainField, IsPlainRow}
 use Rattle.core_rows.proofs.Plain.{name-plain, row-plain-one, word-plain}
-use Rattle.core_case.specs.declared.parts.Side.{Side}
-use Rattle.core_case.specs.declared.parts.Side.TheVariants.{Position, Collateral}
+use Rattle.core_book.specs.declared.parts.Side.{Side}
+use Rattle.core_book.specs.declared.parts.Side.TheVariants.{Position, Collateral}
 use Rattle.core_cert.specs.Written.{is_plain_word, side_word}
 
 -- a word

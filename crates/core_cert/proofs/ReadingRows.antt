@@ -4,7 +4,7 @@ use Rattle.std.proofs.lemmas.List.{take_more, take_all, drop_all, length-take-le
 use Rattle.core_rows.specs.Names.{Record}
 use Rattle.core_rows.proofs.OneByOne.{left-is}
 use Rattle.core_rows.specs.Fields.{records}
-use Rattle.core_case.specs.View.{CaseView}
+use Rattle.core_book.specs.View.{CaseView}
 use Rattle.core_model.specs.Fits.{Fits}
 use Rattle.core_model.specs.declared.cert.Cert.{Cert}
 use Rattle.core_cert.specs.Codes.{code_of}

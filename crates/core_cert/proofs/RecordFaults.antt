@@ -1,7 +1,7 @@
 -- The fault of a record after those before it, step by step.
 use Rattle.std.proofs.Common.{◌≡◌, sym, ◌∙◌, ap, subst, ℕ, List, [], ◌∷◌, length, true, false, not, Option, Some, None}
 use Rattle.core_rows.specs.Names.{Record}
-use Rattle.core_case.specs.View.{CaseView}
+use Rattle.core_book.specs.View.{CaseView}
 use Rattle.core_cert.specs.Kinds.{is_kind, kind_of, forms}
 use Rattle.core_cert.specs.Faults.{last_record, end_before, kind_step, later_fault, fault_of, fields_fault}
 use Rattle.core_rows.specs.Steps.{fault_unless}

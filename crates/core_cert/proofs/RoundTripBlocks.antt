@@ -13,7 +13,7 @@ use Rattle.core_sums.specs.Places.{below, days_to, each}
 use Rattle.core_rows.specs.Names.{Record}
 use Rattle.core_rows.specs.Fields.{number_text}
 use Rattle.core_rows.specs.Written.{IsPlainRow}
-use Rattle.core_case.specs.View.{CaseView}
+use Rattle.core_book.specs.View.{CaseView}
 use Rattle.core_cert.specs.declared.kinds.RecordKind.{RecordKind}
 use Rattle.core_cert.specs.Kinds.{is_kind, forms, word_of}
 use Rattle.core_cert.specs.Faults.{fields_fault, line_step, margin_step, name_step, place_in}

@@ -4,8 +4,8 @@ use Rattle.std.specs.List.{find}
 use Rattle.core_sums.specs.Places.{at}
 use Rattle.core_rows.specs.Names.{Record}
 use Rattle.core_rows.specs.Written.{rows_text}
-use Rattle.core_case.specs.View.{CaseView}
-use Rattle.core_case.specs.Kept.{IsCase}
+use Rattle.core_book.specs.View.{CaseView}
+use Rattle.core_book.specs.Kept.{IsCase}
 use Rattle.core_model.specs.declared.cert.Calendar.{Calendar}
 use Rattle.core_model.specs.Closing.{line_count}
 use Rattle.core_model.specs.Fits.{CalendarFits, IsKept, WeightsFit}

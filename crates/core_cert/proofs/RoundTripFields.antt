@@ -9,8 +9,8 @@ use Rattle.std.proofs.lemmas.Int.{ints}
 use Rattle.core_rows.specs.Names.{Record}
 use Rattle.core_rows.specs.Fields.{IsName, is_name_byte, number_text, wide}
 use Rattle.core_rows.proofs.Numbers.{number-read}
-use Rattle.core_case.specs.declared.parts.Side.{Side}
-use Rattle.core_case.specs.declared.parts.Side.TheVariants.{Position, Collateral}
+use Rattle.core_book.specs.declared.parts.Side.{Side}
+use Rattle.core_book.specs.declared.parts.Side.TheVariants.{Position, Collateral}
 use Rattle.core_model.specs.Fits.{IsKept}
 use Rattle.core_cert.specs.declared.forms.Form.{Form}
 use Rattle.core_cert.specs.declared.forms.Form.TheVariants.{Name, SideWord, Day, Numerator, NotZero}

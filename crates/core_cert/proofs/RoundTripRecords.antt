@@ -10,9 +10,9 @@ use Rattle.core_rows.specs.Names.{Record, place_of}
 use Rattle.core_rows.specs.Fields.{IsName, number_text}
 use Rattle.core_rows.specs.Written.{IsPlainRow}
 use Rattle.core_rows.proofs.Plain.{decimal-plain, is_name-plain, number_text-plain, row-plain-more, row-plain-one, word-plain}
-use Rattle.core_case.specs.View.{CaseView, instrument, instrument_of, line, no_instrument, no_line, no_pool, pool}
-use Rattle.core_case.specs.Kept.{IsCase}
-use Rattle.core_case.specs.declared.parts.Side.{Side}
+use Rattle.core_book.specs.View.{CaseView, instrument, instrument_of, line, no_instrument, no_line, no_pool, pool}
+use Rattle.core_book.specs.Kept.{IsCase}
+use Rattle.core_book.specs.declared.parts.Side.{Side}
 use Rattle.core_model.specs.Closing.{line_count}
 use Rattle.core_model.specs.Fits.{IsKept}
 use Rattle.core_cert.specs.declared.kinds.RecordKind.TheVariants.{Amount, Scenario, Limit, Pool, Full}

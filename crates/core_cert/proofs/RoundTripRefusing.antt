@@ -3,8 +3,8 @@ use Rattle.std.proofs.Common.{◌≡◌, ◌∷◌, ◌++◌, ◌∙◌, [], suc
 use Rattle.std.specs.List.{All}
 use Rattle.core_rows.specs.Names.{Record}
 use Rattle.core_rows.specs.Written.{rows_text}
-use Rattle.core_case.specs.View.{CaseView}
-use Rattle.core_case.specs.Kept.{IsCase}
+use Rattle.core_book.specs.View.{CaseView}
+use Rattle.core_book.specs.Kept.{IsCase}
 use Rattle.core_model.specs.Closing.{line_count}
 use Rattle.core_model.specs.Fits.{WeightsFit}
 use Rattle.core_cert.specs.declared.kinds.RecordKind.TheVariants.{Cannot, Weights, Scenario, Limit, Pool, Full}

@@ -6,7 +6,7 @@ use Rattle.core_rows.specs.Names.{Record}
 use Rattle.core_rows.specs.Fields.{number_text}
 use Rattle.core_rows.specs.Written.{IsPlainRow}
 use Rattle.core_rows.proofs.Plain.{number_text-plain, row-plain-more, row-plain-one, word-plain}
-use Rattle.core_case.specs.View.{CaseView}
+use Rattle.core_book.specs.View.{CaseView}
 use Rattle.core_cert.specs.declared.kinds.RecordKind.{RecordKind}
 use Rattle.core_cert.specs.declared.kinds.RecordKind.TheVariants.{End}
 use Rattle.core_cert.specs.Stated.{last_number}

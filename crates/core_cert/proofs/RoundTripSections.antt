@@ -1,8 +1,8 @@
 -- The sections of a certificate are blocks: amounts, scenarios, limits, pools and full closings.
 use Rattle.std.proofs.Common.{◌≡◌, ◌∷◌, ◌++◌, [], ℕ, suc, ◌+◌, ◌-◌, ◌*◌, ◌<◌, ℤ, List, length, Bool, false, refl, ap, codes, decimal, arith}
 use Rattle.core_sums.specs.Places.{at, row_at}
-use Rattle.core_case.specs.View.{CaseView, instrument, pool}
-use Rattle.core_case.specs.Kept.{IsCase}
+use Rattle.core_book.specs.View.{CaseView, instrument, pool}
+use Rattle.core_book.specs.Kept.{IsCase}
 use Rattle.core_model.specs.declared.cert.Calendar.{Calendar}
 use Rattle.core_model.specs.declared.cert.Weights.{Weights}
 use Rattle.core_model.specs.Bounds.{amounts_of, full_weight, limit_weight, pool_weight, scenario_weight}

@@ -5,7 +5,7 @@ use Rattle.std.specs.List.{list_any}
 use Rattle.std.specs.Str.{bytes_eq}
 use Rattle.std.proofs.lemmas.List.{get_or_push}
 use Rattle.core_rows.specs.Names.{Record}
-use Rattle.core_case.specs.View.{CaseView}
+use Rattle.core_book.specs.View.{CaseView}
 use Rattle.core_cert.specs.declared.kinds.RecordKind.{RecordKind}
 use Rattle.core_cert.specs.declared.kinds.RecordKind.TheVariants.{Cannot, Margin, End}
 use Rattle.core_cert.specs.declared.faults.RecordFault.{RecordFault}

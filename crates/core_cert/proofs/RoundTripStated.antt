@@ -10,7 +10,7 @@ use Rattle.core_rows.specs.Names.{Record}
 use Rattle.core_rows.specs.Written.{IsPlainRow, rows_text}
 use Rattle.core_rows.proofs.Plain.{row-plain-more, row-plain-one, word-plain}
 use Rattle.core_rows.proofs.ReadBack.{rows-read}
-use Rattle.core_case.specs.View.{CaseView}
+use Rattle.core_book.specs.View.{CaseView}
 use Rattle.core_model.specs.declared.cert.Calendar.{Calendar}
 use Rattle.core_cert.specs.declared.kinds.RecordKind.{RecordKind}
 use Rattle.core_cert.specs.declared.kinds.RecordKind.TheVariants.{Cert, Cannot, End}

@@ -4,8 +4,8 @@ use Rattle.std.specs.List.{find}
 use Rattle.std.proofs.lemmas.List.Elements.{All-cons, All-nil}
 use Rattle.core_sums.specs.Places.{at}
 use Rattle.core_rows.specs.Names.{Record}
-use Rattle.core_case.specs.View.{CaseView}
-use Rattle.core_case.specs.Kept.{IsCase}
+use Rattle.core_book.specs.View.{CaseView}
+use Rattle.core_book.specs.Kept.{IsCase}
 use Rattle.core_model.specs.Closing.{line_count}
 use Rattle.core_model.specs.Fits.{WeightsFit}
 use Rattle.core_cert.specs.declared.kinds.RecordKind.{RecordKind}

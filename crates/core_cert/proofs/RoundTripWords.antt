@@ -9,7 +9,7 @@ use Rattle.core_rows.specs.Names.{Record}
 use Rattle.core_rows.specs.Fields.{number_text}
 use Rattle.core_rows.specs.Written.{IsPlainRow}
 use Rattle.core_rows.proofs.Plain.{row-plain-one, word-plain}
-use Rattle.core_case.specs.View.{CaseView}
+use Rattle.core_book.specs.View.{CaseView}
 use Rattle.core_model.specs.Fits.{IsKept}
 use Rattle.core_cert.specs.declared.kinds.RecordKind.{RecordKind}
 use Rattle.core_cert.specs.declared.kinds.RecordKind.TheVariants.{Closes, Cannot, Loss, Margin, Weights}

@@ -2,9 +2,9 @@
 use Rattle.std.proofs.Common.{◌≡◌, refl, pos, negsuc, [], ◌∷◌, codes}
 use Rattle.std.specs.Fmt.{digits}
 use Rattle.core_sums.specs.Places.{below, days_to, each}
-use Rattle.core_case.specs.View.{CaseView}
-use Rattle.core_case.specs.declared.parts.Kind.TheVariants.{Future, Security}
-use Rattle.core_case.specs.declared.parts.Side.TheVariants.{Position, Collateral}
+use Rattle.core_book.specs.View.{CaseView}
+use Rattle.core_book.specs.declared.parts.Kind.TheVariants.{Future, Security}
+use Rattle.core_book.specs.declared.parts.Side.TheVariants.{Position, Collateral}
 use Rattle.core_model.specs.declared.cert.Cert.{Cert}
 use Rattle.core_model.specs.declared.cert.Cert.TheVariants.{Closes, Cannot}
 use Rattle.core_model.proofs.WorkedCases.{numbers, falling}

@@ -8,8 +8,8 @@ use Rattle.core_sums.specs.Places.{at, below, days_to, each}
 use Rattle.core_rows.specs.Fields.{number_text, row_text}
 use Rattle.core_rows.specs.Names.{Record}
 use Rattle.core_rows.specs.Written.{rows_text}
-use Rattle.core_case.specs.declared.parts.Side.{Side}
-use Rattle.core_case.specs.declared.parts.Side.TheVariants.{Position, Collateral}
+use Rattle.core_book.specs.declared.parts.Side.{Side}
+use Rattle.core_book.specs.declared.parts.Side.TheVariants.{Position, Collateral}
 use Rattle.core_model.specs.Fits.{IsKept}
 use Rattle.core_cert.specs.Written.{numbered, side_word}
 use Rattle.core_cert.proofs.Printed.{rows_text-none, rows_text-one}

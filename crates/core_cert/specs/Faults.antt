@@ -10,7 +10,7 @@ use Rattle.core_rows.specs.Names.{Record, field, place_of}
 use Rattle.core_rows.specs.Steps.{fault_unless, first_of}
 use Rattle.core_rows.specs.Steps as Steps
 use Rattle.core_rows.specs.Fields.{wide, name_of}
-use Rattle.core_case.specs.View.{CaseView, instrument, line, instrument_of}
+use Rattle.core_book.specs.View.{CaseView, instrument, line, instrument_of}
 use Rattle.core_model.specs.Closing.{line_count}
 use Rattle.core_cert.specs.declared.kinds.RecordKind.{RecordKind}
 use Rattle.core_cert.specs.declared.kinds.RecordKind.TheVariants.{Cert, Cannot, Amount, Margin, Scenario, Limit, Pool, Full, End}

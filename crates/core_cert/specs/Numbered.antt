@@ -1,7 +1,7 @@
 -- What the numbered names of a case are kept as: sets whose keys, in order, are the names and the lines of the case.
 use Rattle.std.specs.Prelude.{◌≡◌, ℕ, suc, ◌*◌, List, length, map}
 use Rattle.core_sums.specs.Places.{below}
-use Rattle.core_case.specs.View.{CaseView, instrument, line, instrument_of}
+use Rattle.core_book.specs.View.{CaseView, instrument, line, instrument_of}
 use Rattle.core_model.specs.Closing.{line_count}
 use Rattle.core_cert.specs.Written.{side_word}
 use Rattle.core_cert.specs.Faults.{instrument_names, pool_names}

@@ -5,7 +5,7 @@ use Rattle.std.specs.List.{find}
 use Rattle.core_sums.specs.Places.{below}
 use Rattle.core_rows.specs.Names.{Record, field}
 use Rattle.core_rows.specs.Fields.{records}
-use Rattle.core_case.specs.View.{CaseView}
+use Rattle.core_book.specs.View.{CaseView}
 use Rattle.core_model.specs.declared.cert.Calendar.{Calendar}
 use Rattle.core_model.specs.declared.cert.Weights as weights
 use Rattle.core_model.specs.declared.cert.Cert as certs

@@ -11,7 +11,7 @@ use crate::fields::day_in;
 use crate::forms::Spans;
 use crate::kinds::RecordKind;
 use crate::record::side_word;
-use core_case::Case;
+use core_book::Case;
 use core_rows::{Fields, Name, fault_unless};
 use indexmap::IndexSet;
 use std::alloc::{AllocError, Global};
@@ -43,7 +43,7 @@ pub(crate) struct CaseNames<'a> {
 }
 
 impl<'a> Model for CaseNames<'a> {
-    ghost use Rattle.core_case.specs.View.{CaseView};
+    ghost use Rattle.core_book.specs.View.{CaseView};
     ghost use Rattle.core_cert.specs.Numbered.{IsNumbered};
 
     ghost Value = { CaseView };

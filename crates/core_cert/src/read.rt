@@ -13,7 +13,7 @@ use crate::kinds::RecordKind;
 use crate::names::{CaseNames, NameLists};
 use crate::state::state_cert;
 use crate::steps::{ends_with, record_fault};
-use core_case::Case;
+use core_book::Case;
 use core_model::Cert;
 use core_rows::{Fields, records};
 use std::alloc::{AllocError, Global};

@@ -5,7 +5,7 @@ ghost use Rattle.core_rows.specs.Written.{IsPlainRow, rows_text};
 ghost use Rattle.core_model.specs.Fits.{IsKept};
 ghost use Rattle.core_cert.specs.Written.{amount_record, day_record, full_record, is_plain_word, line_fields, side_word, word_record};
 
-use core_case::{Case, Side};
+use core_book::{Case, Side};
 use core_rows::{Fields, Name, put_row};
 use std::alloc::{AllocError, Global};
 

@@ -7,7 +7,7 @@ ghost use Rattle.core_model.specs.Fits.{AreKept, CalendarFits, Fits, IsKept, Wei
 ghost use Rattle.core_cert.specs.Written.{amount_records, cert_text, closing_days, closing_records, constraint_records, full_records, is_plain_word, limit_records, line_amounts, most_bytes, pool_records, refusing_records, scenario_days, scenario_records, IsPlainlyRefusing};
 
 use crate::record::{put_amount, put_day, put_full, put_number, put_word};
-use core_case::Case;
+use core_book::Case;
 use core_model::{Calendar, Cert, Numbers, Weights};
 use core_rows::Name;
 use std::alloc::{AllocError, Global};

@@ -3,7 +3,7 @@ use Rattle.std.proofs.Common.{◌≡◌, sym, ◌∙◌, ap, ℕ, suc, ◌*◌, 
 use Rattle.std.specs.Ordering.{int_eq}
 use Rattle.core_sums.specs.Sums.{total}
 use Rattle.core_sums.specs.Places.{at, below, each}
-use Rattle.core_case.specs.View.{CaseView, line, pool, limit}
+use Rattle.core_book.specs.View.{CaseView, line, pool, limit}
 use Rattle.core_model.specs.declared.cert.Weights.{Weights}
 use Rattle.core_model.specs.Closing.{line_count, fixed}
 use Rattle.core_model.specs.Bounds.{scenario_weight, limit_weight, pool_weight, full_weight}

@@ -6,7 +6,7 @@ use Rattle.std.proofs.lemmas.Bool.Decides.{Decides-int_eq, Decides-eqb, Decides-
 use Rattle.std.specs.Ordering.{int_eq}
 use mir.Syntax.{w128}
 use Rattle.core_sums.specs.Places.{below, days_to, each}
-use Rattle.core_case.specs.View.{CaseView, is_allowed}
+use Rattle.core_book.specs.View.{CaseView, is_allowed}
 use Rattle.core_model.specs.Closing.{Amounts, line_count, fixed}
 use Rattle.core_model.specs.Bounds.{unit}
 use Rattle.core_model.specs.Check.{cash_terms}

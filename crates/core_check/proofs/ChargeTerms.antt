@@ -3,7 +3,7 @@ use Rattle.std.proofs.Common.{◌≡◌, sym, ◌∙◌, ap, ℕ, suc, ◌+◌, 
 use Rattle.std.proofs.lemmas.Bool.{ne_eqb}
 use Rattle.core_sums.specs.Sums.{total}
 use Rattle.core_sums.specs.Places.{at, below, each}
-use Rattle.core_case.specs.View.{CaseView, instrument_of, member, is_allowed}
+use Rattle.core_book.specs.View.{CaseView, instrument_of, member, is_allowed}
 use Rattle.core_model.specs.declared.cert.Weights.{Weights}
 use Rattle.core_model.specs.Bounds.{unit, scenario_weight, limit_weight, pool_weight, full_weight}
 use Rattle.core_model.specs.Check.{members_of_instrument, by_scenario_and_day, plain, of_terms, charge_terms, charge_test}

@@ -8,10 +8,10 @@ use Rattle.core_sums.proofs.Ring.{*ℤ-distr_left, *ℤ_assoc, neg-*ℤ, *ℤ-ne
 use Rattle.core_sums.proofs.SumLaws.{sum_below-cong, sum_below-scale, sum_below-swap, sum_below-le}
 use Rattle.core_sums.proofs.Order.{times-le, sum_below-grouped}
 use Rattle.core_sums.proofs.Grids.{sum_grid-cong, sum_grid-le, sum_grid-plus, sum_grid-scale}
-use Rattle.core_case.specs.View.{CaseView, line, instrument_of, limit, no_line}
-use Rattle.core_case.specs.Kept.{IsCase}
-use Rattle.core_case.specs.declared.parts.Side.{Side}
-use Rattle.core_case.specs.declared.parts.Side.TheVariants.{Position, Collateral}
+use Rattle.core_book.specs.View.{CaseView, line, instrument_of, limit, no_line}
+use Rattle.core_book.specs.Kept.{IsCase}
+use Rattle.core_book.specs.declared.parts.Side.{Side}
+use Rattle.core_book.specs.declared.parts.Side.TheVariants.{Position, Collateral}
 use Rattle.core_model.specs.declared.cert.Weights.{Weights}
 use Rattle.core_model.specs.Closing.{Amounts, line_count, IsAdmissible, ClosesLine, closed_of}
 use Rattle.core_model.specs.Bounds.{limit_weight, pool_charge, full_weight, AreWeights, sum_limits}

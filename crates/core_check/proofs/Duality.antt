@@ -3,7 +3,7 @@ use Rattle.std.proofs.Common.{◌≡◌, sym, ◌∙◌, ℕ, suc, ℤ, pos, ◌
 use Rattle.std.proofs.lemmas.Int.{ints}
 use Rattle.core_sums.specs.Sums.{sum_grid}
 use Rattle.core_sums.proofs.Grids.{sum_grid-cong, sum_grid-le, sum_grid-scale, sum_grid-swap}
-use Rattle.core_case.specs.View.{CaseView, instrument_of, is_allowed}
+use Rattle.core_book.specs.View.{CaseView, instrument_of, is_allowed}
 use Rattle.core_model.specs.declared.cert.Weights.{Weights}
 use Rattle.core_model.specs.Closing.{Amounts, line_count, IsAdmissible}
 use Rattle.core_model.specs.Bounds.{unit, scenario_weight, limit_weight, pool_charge, full_weight, charge, AreWeights}

@@ -7,10 +7,10 @@ use Rattle.std.specs.Ordering.{int_eq}
 use Rattle.std.specs.List.{list_all}
 use Rattle.core_sums.specs.Sums.{sum_below, sum_days, total, greatest_to}
 use Rattle.core_sums.proofs.SumLaws.{sum_below-nonneg, term-none, greatest_to-le}
-use Rattle.core_case.specs.View.{CaseView, instrument, line, instrument_of, pool, limit, pays, is_allowed}
-use Rattle.core_case.specs.Kept.{IsCase}
-use Rattle.core_case.specs.declared.parts.Side.{Side}
-use Rattle.core_case.specs.declared.parts.Side.TheVariants.{Position, Collateral}
+use Rattle.core_book.specs.View.{CaseView, instrument, line, instrument_of, pool, limit, pays, is_allowed}
+use Rattle.core_book.specs.Kept.{IsCase}
+use Rattle.core_book.specs.declared.parts.Side.{Side}
+use Rattle.core_book.specs.declared.parts.Side.TheVariants.{Position, Collateral}
 use Rattle.core_model.specs.declared.cert.Weights.{Weights}
 use Rattle.core_model.specs.Closing.{Amounts, line_count, IsClosingDay, IsAdmissible, ClosesLine, closed_of, pooled, loss_of, worst_loss}
 use Rattle.core_model.specs.Bounds.{scenario_weight, limit_weight, pool_weight, full_weight, charge, bound, AreWeights, AreRefusing}

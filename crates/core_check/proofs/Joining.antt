@@ -1,7 +1,7 @@
 -- The conditions of a certificate, joined in their order.
 use Rattle.std.proofs.Common.{◌≡◌, refl, ◌∙◌, ap, ℤ, pos, ◌≤ℤ◌, ◌<ℤ◌, int_le, arith, Bool, true, false, List, [], ◌∷◌, ◌++◌, append_assoc, if◌then◌else◌, Ok, Err}
 use Rattle.std.proofs.lemmas.Int.{ints}
-use Rattle.core_case.specs.View.{CaseView}
+use Rattle.core_book.specs.View.{CaseView}
 use Rattle.core_model.specs.declared.cert.Calendar.{Calendar}
 use Rattle.core_model.specs.declared.cert.Weights.{Weights}
 use Rattle.core_model.specs.Bounds.{amounts_of}

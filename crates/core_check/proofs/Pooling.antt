@@ -4,7 +4,7 @@ use Rattle.std.proofs.lemmas.Int.{ints}
 use Rattle.std.proofs.lemmas.List.Folds.{list_any-append}
 use Rattle.core_sums.specs.Sums.{total, partial_sums}
 use Rattle.core_sums.specs.Widths.{most, leaves, any_leaves}
-use Rattle.core_case.specs.View.{CaseView, member}
+use Rattle.core_book.specs.View.{CaseView, member}
 use Rattle.core_model.specs.Closing.{Amounts}
 use Rattle.core_model.specs.Check.{day_closings}
 use Rattle.core_wide.specs.Steps.{summed, with_product}

@@ -9,7 +9,7 @@ use Rattle.core_sums.specs.Sums.{total}
 use Rattle.core_sums.specs.Places.{below}
 use Rattle.core_sums.specs.Widths.{any_leaves}
 use Rattle.core_sums.proofs.Lists.{length-below, get_or-below}
-use Rattle.core_case.specs.View.{CaseView}
+use Rattle.core_book.specs.View.{CaseView}
 use Rattle.core_model.specs.Closing.{Amounts}
 use Rattle.core_model.specs.Check.{Test, places_of, cash_terms, loss_test, reached_test, by_scenario_and_day, Passed, Failed, Wide, verdict_of}
 use Rattle.core_check.specs.Cells.{scenario_of, house_day_of}

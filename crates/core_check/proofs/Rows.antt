@@ -3,9 +3,9 @@ use Rattle.std.proofs.Common.{◌≡◌, refl, ◌-◌, ◌^◌, ℤ, pos, negsu
 use Rattle.core_sums.specs.Sums.{sum_below, total, partial_sums}
 use Rattle.core_sums.specs.Places.{has, least_below, below, days_to, each}
 use Rattle.core_days.specs.Days.{working_dates, open_days, open_day_before}
-use Rattle.core_case.specs.View.{CaseView}
-use Rattle.core_case.specs.declared.parts.Kind.TheVariants.{Security}
-use Rattle.core_case.specs.declared.parts.Side.TheVariants.{Position, Collateral}
+use Rattle.core_book.specs.View.{CaseView}
+use Rattle.core_book.specs.declared.parts.Kind.TheVariants.{Security}
+use Rattle.core_book.specs.declared.parts.Side.TheVariants.{Position, Collateral}
 use Rattle.core_model.specs.declared.cert.Weights.{Weights}
 use Rattle.core_model.specs.declared.cert.Cert.{Cert}
 use Rattle.core_model.specs.declared.cert.Cert.TheVariants.{Closes, Cannot}

@@ -8,10 +8,10 @@ use Rattle.std.specs.List.{list_all}
 use Rattle.core_sums.specs.Sums.{sum_days, total, greatest_to}
 use Rattle.core_sums.specs.Widths.{any_leaves}
 use Rattle.core_sums.proofs.SumLaws.{greatest_to-reached}
-use Rattle.core_case.specs.View.{CaseView, line, pool, limit, is_allowed}
-use Rattle.core_case.specs.Kept.{IsCase}
-use Rattle.core_case.specs.declared.parts.Side.{Side}
-use Rattle.core_case.specs.declared.parts.Side.TheVariants.{Position, Collateral}
+use Rattle.core_book.specs.View.{CaseView, line, pool, limit, is_allowed}
+use Rattle.core_book.specs.Kept.{IsCase}
+use Rattle.core_book.specs.declared.parts.Side.{Side}
+use Rattle.core_book.specs.declared.parts.Side.TheVariants.{Position, Collateral}
 use Rattle.core_model.specs.declared.cert.Weights.{Weights}
 use Rattle.core_model.specs.declared.cert.Cert.{Cert}
 use Rattle.core_model.specs.declared.cert.Cert.TheVariants.{Closes, Cannot}

@@ -6,7 +6,7 @@ use Rattle.core_sums.specs.Sums.{sum_below, sum_days, sum_grid, total}
 use Rattle.core_sums.specs.Places.{below, days_to, each}
 use Rattle.core_sums.proofs.SumLaws.{sum_below-cong, sum_below-neg}
 use Rattle.core_sums.proofs.Lists.{total-append, total-below, total-each, total-filter}
-use Rattle.core_case.specs.View.{CaseView, line, instrument_of, member, pool, limit, is_allowed}
+use Rattle.core_book.specs.View.{CaseView, line, instrument_of, member, pool, limit, is_allowed}
 use Rattle.core_model.specs.declared.cert.Weights.{Weights}
 use Rattle.core_model.specs.Closing.{Amounts, line_count, closed_of, pooled, fixed}
 use Rattle.core_model.specs.Bounds.{unit, scenario_weight, limit_weight, pool_weight, full_weight, sum_losses, sum_limits, sum_pools, pool_charge, charge, bound}

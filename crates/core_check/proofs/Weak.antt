@@ -7,8 +7,8 @@ use Rattle.core_sums.proofs.Ring.{*ℤ-distr_left, *ℤ-distr_right, *ℤ-middle
 use Rattle.core_sums.proofs.SumLaws.{sum_below-cong, sum_below-swap}
 use Rattle.core_sums.proofs.Order.{times-le}
 use Rattle.core_sums.proofs.Grids.{sum_grid-cong, sum_grid-le, sum_grid-plus, sum_grid-scale, sum_grid-zero}
-use Rattle.core_case.specs.View.{CaseView, line, member, pool, limit, no_member}
-use Rattle.core_case.specs.Kept.{IsCase}
+use Rattle.core_book.specs.View.{CaseView, line, member, pool, limit, no_member}
+use Rattle.core_book.specs.Kept.{IsCase}
 use Rattle.core_model.specs.declared.cert.Weights.{Weights}
 use Rattle.core_model.specs.Closing.{Amounts, line_count, IsAdmissible, closed_of, pooled, fixed, cash_of, loss_of, CannotClose}
 use Rattle.core_model.specs.Bounds.{limit_weight, pool_weight, pool_charge, full_weight, scenario_weight, AreWeights, AreRefusing, sum_losses, sum_limits, sum_pools, bound}

@@ -1,6 +1,6 @@
 -- Tables by row and day, whose places are counted from 0 on, row by row.
 use Rattle.std.specs.Prelude.{◌≡◌, ℕ, suc, ◌/◌, ◌%◌, ◌<◌, ◌≤◌}
-use Rattle.core_case.specs.View.{CaseView}
+use Rattle.core_book.specs.View.{CaseView}
 
 -- the row and the closing day of a place
 abbrev pub row_of : CaseView → ℕ → ℕ

@@ -4,7 +4,7 @@ use Rattle.core_sums.specs.Sums.{partial_sums}
 use Rattle.std.specs.Ordering.{int_eq}
 use Rattle.core_sums.specs.Places.{at, each}
 use Rattle.core_sums.specs.Widths.{any_leaves}
-use Rattle.core_case.specs.View.{CaseView, member, is_allowed}
+use Rattle.core_book.specs.View.{CaseView, member, is_allowed}
 use Rattle.core_model.specs.declared.cert.Weights.{Weights}
 use Rattle.core_model.specs.Closing.{Amounts}
 use Rattle.core_model.specs.Bounds.{unit, pool_weight}

@@ -1,8 +1,8 @@
 // The condition on the bound that the weights give.
 ghost use Rattle.std.specs.Prelude.{◌≡◌, ◌*ℤ◌, neg_ℤ, ◌<◌, ◌≤ℤ◌, pos, length};
 ghost use Rattle.core_sums.specs.Places.{at};
-ghost use Rattle.core_case.specs.Kept.{IsCase};
-ghost use Rattle.core_case.specs.View.{limit, line, pool};
+ghost use Rattle.core_book.specs.Kept.{IsCase};
+ghost use Rattle.core_book.specs.View.{limit, line, pool};
 ghost use Rattle.core_model.specs.Closing.{fixed, line_count};
 ghost use Rattle.core_model.specs.Fits.{IsKept, WeightsFit};
 ghost use Rattle.core_model.specs.Check.{bound_terms, meets_test, refuses_test};
@@ -12,7 +12,7 @@ ghost use Rattle.core_check.specs.Steps.{judged};
 
 use crate::cells::{closing_cell, number, scenario_cell};
 use crate::ratios::is_same_ratio;
-use core_case::Case;
+use core_book::Case;
 use core_flows::Flows;
 use core_model::Weights;
 use core_wide::{add_each, minus_product, plus, plus_product};

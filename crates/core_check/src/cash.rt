@@ -2,7 +2,7 @@
 ghost use Rattle.std.specs.Prelude.{◌≡◌, suc, ◌*◌, ◌<◌, ◌≤◌, ◌++◌, ◌∷◌, [], pos, neg_ℤ, false, length};
 ghost use Rattle.std.specs.Ordering.{int_eq};
 ghost use Rattle.core_sums.specs.Sums.{total};
-ghost use Rattle.core_case.specs.Kept.{IsCase};
+ghost use Rattle.core_book.specs.Kept.{IsCase};
 ghost use Rattle.core_model.specs.Bounds.{amounts_of};
 ghost use Rattle.core_model.specs.Fits.{CalendarFits, IsKept};
 ghost use Rattle.core_model.specs.Check.{by_scenario_and_day, cash_terms, loss_test, places_of, reached_test};
@@ -14,7 +14,7 @@ ghost use Rattle.core_check.specs.Steps.{LossesStay, cash_step, judged};
 use crate::cells::{closing_cell, number, scenario_cell};
 use crate::fault::CheckFault;
 use crate::places::{check_each, judge_place};
-use core_case::Case;
+use core_book::Case;
 use core_flows::Flows;
 use core_model::Calendar;
 use core_wide::{add_each, plus_product};

@@ -1,13 +1,13 @@
 // Rows and days of the tables of a certificate, and the numbers at them.
 ghost use Rattle.std.specs.Prelude.{◌≡◌, suc, ◌+◌, ◌*◌, ◌<◌, ◌≤◌, length};
 ghost use Rattle.core_sums.specs.Places.{at};
-ghost use Rattle.core_case.specs.Kept.{IsCase};
+ghost use Rattle.core_book.specs.Kept.{IsCase};
 ghost use Rattle.core_model.specs.Closing.{line_count};
 ghost use Rattle.core_model.specs.Bounds.{amounts_of, limit_weight, pool_weight};
 ghost use Rattle.core_model.specs.Fits.{CalendarFits, WeightsFit};
 ghost use Rattle.core_check.specs.Cells.{IsClosingCell, IsScenarioCell};
 
-use core_case::Case;
+use core_book::Case;
 use core_model::{Calendar, Numbers, Weights};
 
 /// The row and the closing day of a place in a table of so many rows by row and closing day.

@@ -1,7 +1,7 @@
 // The condition on what the weights charge the closings.
 ghost use Rattle.std.specs.Prelude.{◌≡◌, ◌*◌, ◌<◌, ◌≤◌, pos, true, length};
-ghost use Rattle.core_case.specs.Kept.{IsCase};
-ghost use Rattle.core_case.specs.View.{is_allowed};
+ghost use Rattle.core_book.specs.Kept.{IsCase};
+ghost use Rattle.core_book.specs.View.{is_allowed};
 ghost use Rattle.core_model.specs.Closing.{line_count};
 ghost use Rattle.core_model.specs.Fits.{WeightsFit};
 ghost use Rattle.core_model.specs.Check.{by_line_and_day, charge_terms, charge_test, places_of};
@@ -13,7 +13,7 @@ ghost use Rattle.core_check.specs.Steps.{judged, member_charge, unit_charge};
 use crate::cells::{closing_cell, limit_weight, number, pool_weight, scenario_cell};
 use crate::fault::CheckFault;
 use crate::places::check_each;
-use core_case::Case;
+use core_book::Case;
 use core_flows::Flows;
 use core_model::Weights;
 use core_wide::{add_each, minus_product, plus, plus_product};

@@ -2,8 +2,8 @@
 ghost use Rattle.std.specs.Prelude.{◌≡◌, ◌*◌, ◌<◌, ◌≤◌, ◌∷◌, [], ◌||◌, pos, ◌==◌, length, if◌then◌else◌, Some};
 ghost use Rattle.std.specs.Ordering.{int_eq};
 ghost use Rattle.core_sums.specs.Places.{at, each};
-ghost use Rattle.core_case.specs.Kept.{IsCase};
-ghost use Rattle.core_case.specs.View.{instrument_of, is_allowed, line, member};
+ghost use Rattle.core_book.specs.Kept.{IsCase};
+ghost use Rattle.core_book.specs.View.{instrument_of, is_allowed, line, member};
 ghost use Rattle.core_model.specs.Closing.{line_count};
 ghost use Rattle.core_model.specs.Bounds.{amounts_of};
 ghost use Rattle.core_model.specs.Fits.{CalendarFits};
@@ -16,7 +16,7 @@ ghost use Rattle.core_check.specs.Steps.{judged, pooled_numbers, pooled_step, po
 use crate::cells::{amount, closing_cell, number};
 use crate::fault::CheckFault;
 use crate::places::check_each;
-use core_case::{Case, Side};
+use core_book::{Case, Side};
 use core_model::Calendar;
 use core_wide::{add_each, plus, plus_product, times};
 

@@ -1,6 +1,6 @@
 // The conditions of a certificate, one after the other.
 ghost use Rattle.std.specs.Prelude.{◌≡◌, ◌++◌, ◌∷◌, []};
-ghost use Rattle.core_case.specs.Kept.{IsCase};
+ghost use Rattle.core_book.specs.Kept.{IsCase};
 ghost use Rattle.core_model.specs.Bounds.{amounts_of};
 ghost use Rattle.core_model.specs.Check.{by_line_and_day, calendar_places, charge_test, places, places_of, sum_test, weight_tests};
 ghost use Rattle.core_model.specs.Fits.{CalendarFits, Fits, IsKept, WeightsFit};
@@ -14,7 +14,7 @@ use crate::closings::{check_allowed, check_caps, check_full, check_limits, check
 use crate::fault::CheckFault;
 use crate::places::judge_place;
 use crate::weights::{check_weight_signs, have_sum};
-use core_case::Case;
+use core_book::Case;
 use core_flows::Flows;
 use core_model::{Calendar, Cert, Weights};
 

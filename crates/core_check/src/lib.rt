@@ -17,7 +17,7 @@ mod ratios;
 mod weights;
 
 ghost use Rattle.std.specs.Prelude.{◌≡◌, OnOk, IfErr};
-ghost use Rattle.core_case.specs.Kept.{IsCase};
+ghost use Rattle.core_book.specs.Kept.{IsCase};
 ghost use Rattle.core_model.specs.Fits.{Fits};
 ghost use Rattle.core_model.specs.Shows.{Shows};
 ghost use Rattle.core_model.specs.Check.{verdict, Passed};
@@ -25,7 +25,7 @@ ghost use Rattle.core_check.specs.Answers.{Refuses};
 ghost use Rattle.core_check.specs.Laws.{MetBoundShowsLeast, RefusingShowsNone, ShowingIsValid, ValidShows};
 
 use conditions::check_cert;
-use core_case::Case;
+use core_book::Case;
 use core_flows::Flows;
 use core_model::Cert;
 pub use fault::CheckFault;

@@ -1,7 +1,7 @@
 // The conditions on the signs of the weights and on the sum of the scenario weights.
 ghost use Rattle.std.specs.Prelude.{◌≡◌, ◌+◌, ◌^◌, ◌<◌, pos, int_le, map, length};
 ghost use Rattle.core_sums.specs.Places.{at, below};
-ghost use Rattle.core_case.specs.Kept.{IsCase};
+ghost use Rattle.core_book.specs.Kept.{IsCase};
 ghost use Rattle.core_model.specs.Closing.{line_count};
 ghost use Rattle.core_model.specs.Fits.{WeightsFit};
 ghost use Rattle.core_model.specs.Check.{full_sign, places_of, plain, sum_test, weight_tests};
@@ -11,7 +11,7 @@ ghost use Rattle.core_check.specs.Steps.{judged};
 use crate::cells::number;
 use crate::fault::CheckFault;
 use crate::places::check_each;
-use core_case::{Case, Side};
+use core_book::{Case, Side};
 use core_model::{Numbers, Weights};
 use core_wide::{add_each, plus};
 

@@ -7,12 +7,12 @@ use Rattle.core_sums.specs.Sums.{sum_below, sum_days}
 use Rattle.core_sums.proofs.Ring.{*ℤ-distr_left, *ℤ-middle, *ℤ-pos_one}
 use Rattle.core_sums.proofs.SumLaws.{sum_below-cong, sum_below-zero, sum_below-plus, sum_below-scale, sum_below-swap}
 use Rattle.core_sums.proofs.Picked.{picked, sum_below-picked, sum_below-front}
-use Rattle.core_case.specs.View.{CaseView, instrument, line, instrument_of, price, is_open, day_before, is_allowed, no_line}
-use Rattle.core_case.specs.Kept.{IsCase, IsLine}
-use Rattle.core_case.specs.declared.parts.Kind.{Kind}
-use Rattle.core_case.specs.declared.parts.Kind.TheVariants.{Future, Security}
-use Rattle.core_case.specs.declared.parts.Side.{Side}
-use Rattle.core_case.specs.declared.parts.Side.TheVariants.{Position, Collateral}
+use Rattle.core_book.specs.View.{CaseView, instrument, line, instrument_of, price, is_open, day_before, is_allowed, no_line}
+use Rattle.core_book.specs.Kept.{IsCase, IsLine}
+use Rattle.core_book.specs.declared.parts.Kind.{Kind}
+use Rattle.core_book.specs.declared.parts.Kind.TheVariants.{Future, Security}
+use Rattle.core_book.specs.declared.parts.Side.{Side}
+use Rattle.core_book.specs.declared.parts.Side.TheVariants.{Position, Collateral}
 use Rattle.core_model.specs.Closing.{Amounts, line_count, IsAdmissible, ClosesLine, size, flow_by, flow, is_paid_by, fixed}
 use Rattle.core_model.specs.Bounds.{alone, one_on, unit}
 use Rattle.core_flows.specs.Laws.{CashByUnits}

@@ -1,11 +1,11 @@
 -- The tables give the unit of a line.
 use Rattle.std.proofs.Common.{◌≡◌, sym, ◌∙◌, ap, ℕ, suc, ◌≤◌, ℤ, pos, ◌-ℤ◌, ◌*ℤ◌, subst, arith, Bool, true, List, length, get_or, Option, None, Vec, Global, if◌then◌else◌}
-use Rattle.core_case.specs.View.{CaseView, instrument, instrument_of, line, price, pays, is_allowed}
-use Rattle.core_case.specs.Kept.{IsCase}
-use Rattle.core_case.specs.declared.parts.Instr.{Instr}
-use Rattle.core_case.specs.declared.parts.Line.{Line}
-use Rattle.core_case.specs.declared.parts.Kind.{Kind}
-use Rattle.core_case.specs.declared.parts.Kind.TheVariants.{Future, Security}
+use Rattle.core_book.specs.View.{CaseView, instrument, instrument_of, line, price, pays, is_allowed}
+use Rattle.core_book.specs.Kept.{IsCase}
+use Rattle.core_book.specs.declared.parts.Instr.{Instr}
+use Rattle.core_book.specs.declared.parts.Line.{Line}
+use Rattle.core_book.specs.declared.parts.Kind.{Kind}
+use Rattle.core_book.specs.declared.parts.Kind.TheVariants.{Future, Security}
 use Rattle.core_model.specs.Closing.{size, is_by}
 use Rattle.core_model.specs.Bounds.{unit}
 use Rattle.core_flows.specs.Units.{last_paid, marked_to, unit_of}

@@ -6,7 +6,7 @@ use Rattle.core_sums.specs.Places.{least_below}
 use Rattle.core_sums.proofs.Firsts.{Answers, least_below-answers}
 use Rattle.core_days.specs.Days.{open_days, IsPayDay, pay_day}
 use Rattle.core_days.proofs.PayDays.{passed, open_days-open, pay_day-shows}
-use Rattle.core_case.specs.View.{CaseView, instrument, is_open, pays}
+use Rattle.core_book.specs.View.{CaseView, instrument, is_open, pays}
 use Rattle.core_model.specs.Closing.{is_by}
 
 -- a day adds one open day at most

@@ -5,8 +5,8 @@ use mir.Syntax.{w128}
 use Rattle.std.proofs.Math.Nat.{mul-le-mul}
 use Rattle.core_sums.specs.Sums.{sum_below}
 use Rattle.core_sums.proofs.SumLaws.{sum_below-more}
-use Rattle.core_case.specs.View.{CaseView, instrument, line, instrument_of, price, cash, pays, no_line, no_instrument}
-use Rattle.core_case.specs.Kept.{IsCase, IsLine, IsInstrument}
+use Rattle.core_book.specs.View.{CaseView, instrument, line, instrument_of, price, cash, pays, no_line, no_instrument}
+use Rattle.core_book.specs.Kept.{IsCase, IsLine, IsInstrument}
 use Rattle.core_model.specs.Closing.{size, is_by}
 use Rattle.core_flows.specs.Units.{last_paid, marked_to}
 use Rattle.core_flows.proofs.Telescope.{day_before-le}

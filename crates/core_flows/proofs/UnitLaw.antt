@@ -7,10 +7,10 @@ use Rattle.core_sums.specs.Sums.{sum_below, sum_days}
 use Rattle.core_sums.proofs.Ring.{*ℤ-pos_one}
 use Rattle.core_sums.proofs.SumLaws.{sum_below-cong, sum_below-none, sum_below-scale, sum_below-cut, sum_below-single}
 use Rattle.core_days.specs.Days.{open_day_before, pay_day}
-use Rattle.core_case.specs.View.{CaseView, instrument, instrument_of, price, is_open, pays, day_before, is_allowed}
-use Rattle.core_case.specs.Kept.{IsCase}
-use Rattle.core_case.specs.declared.parts.Kind.{Kind}
-use Rattle.core_case.specs.declared.parts.Kind.TheVariants.{Future, Security}
+use Rattle.core_book.specs.View.{CaseView, instrument, instrument_of, price, is_open, pays, day_before, is_allowed}
+use Rattle.core_book.specs.Kept.{IsCase}
+use Rattle.core_book.specs.declared.parts.Kind.{Kind}
+use Rattle.core_book.specs.declared.parts.Kind.TheVariants.{Future, Security}
 use Rattle.core_model.specs.Closing.{size, flow_by, still_open, is_by}
 use Rattle.core_model.specs.Bounds.{alone, one_on, unit}
 use Rattle.core_flows.specs.Units.{last_paid, marked_to, unit_of}

@@ -1,9 +1,9 @@
 -- What one unit of a line pays, without a sum over days.
 use Rattle.std.specs.Prelude.{ℕ, suc, ℤ, pos, ◌-ℤ◌, ◌*ℤ◌, if◌then◌else◌}
 use Rattle.core_days.specs.Days.{open_day_before}
-use Rattle.core_case.specs.View.{CaseView, instrument_of, price, pays}
-use Rattle.core_case.specs.declared.parts.Kind.{Kind}
-use Rattle.core_case.specs.declared.parts.Kind.TheVariants.{Future, Security}
+use Rattle.core_book.specs.View.{CaseView, instrument_of, price, pays}
+use Rattle.core_book.specs.declared.parts.Kind.{Kind}
+use Rattle.core_book.specs.declared.parts.Kind.TheVariants.{Future, Security}
 use Rattle.core_model.specs.Closing.{size, is_by}
 
 -- the last open day of an instrument that is paid by day t, where 0 stands for none

@@ -1,14 +1,14 @@
 // The flows of a case.
 ghost use Rattle.std.specs.Prelude.{◌≡◌, ◌*◌, ◌^◌, ◌<◌, ◌≤◌, suc, length, true, unsigned_abs, IfOk};
-ghost use Rattle.core_case.specs.Kept.{IsCase};
-ghost use Rattle.core_case.specs.View.{is_allowed};
+ghost use Rattle.core_book.specs.Kept.{IsCase};
+ghost use Rattle.core_book.specs.View.{is_allowed};
 ghost use Rattle.core_model.specs.Closing.{fixed};
 ghost use Rattle.core_model.specs.Bounds.{unit};
 ghost use Rattle.core_flows.specs.Tables.{IsTable};
 
 use crate::tables::{PayTable, pay_tables};
 use crate::units::unit;
-use core_case::Case;
+use core_book::Case;
 use std::alloc::{AllocError, Global};
 use std::marker::Model;
 
@@ -25,7 +25,7 @@ pub struct Flows<'a> {
 }
 
 impl<'a> Model for Flows<'a> {
-    ghost use Rattle.core_case.specs.View.{CaseView};
+    ghost use Rattle.core_book.specs.View.{CaseView};
     ghost use Rattle.core_flows.specs.Inside.{HasTables};
 
     ghost Value = { CaseView };

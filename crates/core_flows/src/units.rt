@@ -1,13 +1,13 @@
 // What one unit of a line pays, by the pay days of its instrument.
 ghost use Rattle.std.specs.Prelude.{◌≡◌, ◌*◌, ◌^◌, ◌<◌, ◌≤◌, ◌-ℤ◌, ◌*ℤ◌, length, true, unsigned_abs};
-ghost use Rattle.core_case.specs.Kept.{IsCase};
-ghost use Rattle.core_case.specs.View.{instrument_of, price, is_allowed};
+ghost use Rattle.core_book.specs.Kept.{IsCase};
+ghost use Rattle.core_book.specs.View.{instrument_of, price, is_allowed};
 ghost use Rattle.core_model.specs.Closing.{size};
 ghost use Rattle.core_model.specs.Bounds.{unit};
 ghost use Rattle.core_flows.specs.Tables.{IsPayTable};
 
 use crate::tables::PayTable;
-use core_case::{Case, Kind};
+use core_book::{Case, Kind};
 
 /// The sign of a line times its instrument's multiplier: at most 10^6 in absolute value.
 fn size(case: &Case, line: usize) -> i64

@@ -3,7 +3,7 @@ use Rattle.std.proofs.Common.{◌≡◌, refl, ℕ, ℤ, pos, negsuc, List, [], 
 use Rattle.core_sums.specs.Sums.{sum_below, greatest_to}
 use Rattle.core_sums.specs.Places.{has, least_below}
 use Rattle.core_days.specs.Days.{working_dates, open_days, open_day_before}
-use Rattle.core_case.specs.View.{CaseView}
+use Rattle.core_book.specs.View.{CaseView}
 use Rattle.core_model.specs.declared.cert.Calendar.{Calendar}
 use Rattle.core_model.specs.declared.cert.Weights.{Weights}
 use Rattle.core_model.specs.Closing.{flow, cash_of, worst_loss}

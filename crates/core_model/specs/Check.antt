@@ -1,21 +1,22 @@
--- The check of a certificate: twelve conditions, each with its places in order, numbered from 1. Where the sums of the
--- model run over functions, those of the check run over lists, in the order in which they are added from 0 on.
--- d is a calendar's denominator, a its amounts and w the weights; l is a line, u a closing day, i an instrument, p a
--- pool, m a member, k a scenario and t a house day, all but the days from 0.
+-- The check of a certificate: twelve conditions, each with its places in order, numbered from 1. Where the
+-- sums of the model run over functions, those of the check run over lists, in the order of their addition
+-- from 0 on. a is a calendar and w the weights; l is a line, u a closing day, j a tier, i an instrument, p a
+-- pool, m a member, k a scenario and t a house day; all but days and tiers count from 0.
 use Rattle.std.specs.Prelude.{ℕ, suc, ℤ, pos, ◌*ℤ◌, neg_ℤ, Bool, true, ◌||◌, ◌==◌, int_le, int_lt, List, [], ◌∷◌, ◌++◌, length, map, filter, IsTrue, if◌then◌else◌}
 use Rattle.std.specs.Ordering.{int_eq}
 use Rattle.std.specs.List.{list_all, list_any}
 use Rattle.core_sums.specs.Sums.{total, partial_sums}
 use Rattle.core_sums.specs.Places.{below, days_to, each}
 use Rattle.core_sums.specs.Widths.{any_leaves}
-use Rattle.core_case.specs.View.{CaseView, line, instrument_of, member, pool, limit, is_allowed}
-use Rattle.core_case.specs.declared.parts.Side.{Side}
-use Rattle.core_case.specs.declared.parts.Side.TheVariants.{Position, Collateral}
+use Rattle.core_book.specs.View.{CaseView, line, instrument_of, member, pool, tiers, limit, counts, is_allowed}
+use Rattle.core_book.specs.declared.parts.Side.{Side}
+use Rattle.core_book.specs.declared.parts.Side.TheVariants.{Position, Collateral}
 use Rattle.core_model.specs.declared.cert.Weights.{Weights}
 use Rattle.core_model.specs.declared.cert.Cert.{Cert}
 use Rattle.core_model.specs.declared.cert.Cert.TheVariants.{Closes, Cannot}
-use Rattle.core_model.specs.Closing.{Amounts, line_count, fixed}
-use Rattle.core_model.specs.Bounds.{amounts_of, unit, scenario_weight, limit_weight, pool_weight, full_weight}
+use Rattle.core_model.specs.Closing.{Plan, line_count, is_pooled, fixed}
+use Rattle.core_model.specs.Layout.{plan_of, scenario_weight, limit_weight, pool_weight, full_weight}
+use Rattle.core_model.specs.Bounds.{unit}
 
 -- The test of one place: the products and partial sums that it takes, and whether it holds.
 pub record Test : Type 0 where
@@ -30,6 +31,13 @@ plain holds = record { numbers = []; holds = holds }
 abbrev pub of_terms : List ℤ → Bool → Test
 of_terms terms holds = record { numbers = terms ++ partial_sums (pos 0) terms; holds = holds }
 
+-- a test of the sum of some amounts against a product: the sums from 0 on, and the product
+abbrev pub against : ℤ → (ℤ → ℤ → Bool) → List ℤ → Test
+against product holds amounts = record {
+  numbers = partial_sums (pos 0) amounts ++ (product ∷ []);
+  holds = holds (total amounts) product;
+}
+
 -- a place of a condition
 pub record Place : Type 0 where
   pub condition : ℕ
@@ -39,33 +47,45 @@ pub record Place : Type 0 where
 -- the places of a condition, numbered from a first number on
 unfoldable pub places_of : ℕ → ℕ → List Test → List Place
 places_of condition first [] = []
-places_of condition first (x ∷ xs) = record { condition = condition; place = first; test = x } ∷ places_of condition (suc first) xs
+places_of condition first (x ∷ xs) =
+    record { condition = condition; place = first; test = x } ∷ places_of condition (suc first) xs
 
 -- f of each pair from two lists, by the first and then by the second
 abbrev pub pairs : {A B C : Type 0} → List A → List B → (A → B → C) → List C
 pairs xs ys f = each xs (λ x. map (f x) ys)
 
+-- f of each line
 abbrev pub by_line : {A : Type 0} → CaseView → (ℕ → A) → List A
 by_line c f = map f (below (line_count c))
 
-abbrev pub by_line_and_day : {A : Type 0} → CaseView → (ℕ → ℕ → A) → List A
-by_line_and_day c = pairs (below (line_count c)) (days_to c.horizon)
+-- f of each closing day and tier
+abbrev pub by_day_and_tier : {A : Type 0} → CaseView → (ℕ → ℕ → A) → List A
+by_day_and_tier c = pairs (days_to c.horizon) (days_to (tiers c))
 
-abbrev pub by_instrument_and_day : {A : Type 0} → CaseView → (ℕ → ℕ → A) → List A
-by_instrument_and_day c = pairs (below (length c.instruments)) (days_to c.horizon)
+-- f of each closing of a line that is allowed, by day and tier
+abbrev pub by_allowed : {A : Type 0} → CaseView → ℕ → (ℕ → ℕ → A) → List A
+by_allowed c l f = each (days_to c.horizon) (λ u. map (f u) (filter (is_allowed c l u) (days_to (tiers c))))
 
+-- f of each line, and of each instrument, by closing day and tier
+abbrev pub by_closing : {A : Type 0} → CaseView → (ℕ → ℕ → ℕ → A) → List A
+by_closing c f = each (below (line_count c)) (λ l. by_day_and_tier c (f l))
+
+abbrev pub by_limit : {A : Type 0} → CaseView → (ℕ → ℕ → ℕ → A) → List A
+by_limit c f = each (below (length c.instruments)) (λ i. by_day_and_tier c (f i))
+
+-- f of each pool by closing day, and of each scenario by house day
 abbrev pub by_pool_and_day : {A : Type 0} → CaseView → (ℕ → ℕ → A) → List A
 by_pool_and_day c = pairs (below (length c.pools)) (days_to c.horizon)
 
 abbrev pub by_scenario_and_day : {A : Type 0} → CaseView → (ℕ → ℕ → A) → List A
 by_scenario_and_day c = pairs (below (length c.scenarios)) (below (suc c.last))
 
--- the lines of an instrument, the members of a pool and those of an instrument, in the file's order
+-- in the file's order an instrument's lines, a pool's members that count on a day, an instrument's members
 abbrev pub lines_of : CaseView → ℕ → List ℕ
 lines_of c i = filter (λ l. instrument_of c l == i) (below (line_count c))
 
-abbrev pub members_of_pool : CaseView → ℕ → List ℕ
-members_of_pool c p = filter (λ m. (member c m).pool == p) (below (length c.members))
+abbrev pub members_of_pool : CaseView → ℕ → ℕ → List ℕ
+members_of_pool c p u = filter (is_pooled c p u) (below (length c.members))
 
 abbrev pub members_of_instrument : CaseView → ℕ → List ℕ
 members_of_instrument c i = filter (λ m. (member c m).instrument == i) (below (length c.members))
@@ -74,79 +94,81 @@ members_of_instrument c i = filter (λ m. (member c m).instrument == i) (below (
 abbrev pub denominator_test : ℤ → Test
 denominator_test d = plain (int_le (pos 1) d)
 
--- 2, by line and day: the amount is at least 0
-abbrev pub sign_test : Amounts → ℕ → ℕ → Test
-sign_test a l u = plain (int_le (pos 0) (a l u))
+-- 2, by line, day and tier: the amount is at least 0
+abbrev pub sign_test : Plan → ℕ → ℕ → ℕ → Test
+sign_test a l u j = plain (int_le (pos 0) (a.amount l u j))
 
--- 3, by line and day: the amount is 0 where the closing is not allowed
-abbrev pub allowed_test : CaseView → Amounts → ℕ → ℕ → Test
-allowed_test c a l u = plain (is_allowed c l u || int_eq (a l u) (pos 0))
+-- 3, by line, day and tier: the amount is 0 where the closing is not allowed
+abbrev pub allowed_test : CaseView → Plan → ℕ → ℕ → ℕ → Test
+allowed_test c a l u j = plain (is_allowed c l u j || int_eq (a.amount l u j) (pos 0))
 
--- 4, by line: the sum of its amounts, by day, is its whole amount times d for a position, and at most that for
--- collateral
+-- a position is closed in full, and collateral at most in full
 abbrev pub closes_line : Side → ℤ → ℤ → Bool
 closes_line Position closed amount = int_eq closed amount
 closes_line Collateral closed amount = int_le closed amount
 
-abbrev pub closings : CaseView → Amounts → ℕ → List ℤ
-closings c a l = map (a l) (days_to c.horizon)
+-- 4, by line: the sum of its amounts, by day and tier, closes its whole amount times the denominator
+abbrev pub full_test : CaseView → Plan → ℕ → Test
+full_test c a l =
+    against ((line c l).amount *ℤ a.den) (closes_line (line c l).side) (by_day_and_tier c (a.amount l))
 
-abbrev pub full_test : CaseView → ℤ → Amounts → ℕ → Test
-full_test c d a l = record {
-  numbers = partial_sums (pos 0) (closings c a l) ++ (((line c l).amount *ℤ d) ∷ []);
-  holds = closes_line (line c l).side (total (closings c a l)) ((line c l).amount *ℤ d);
-}
+-- the amounts of an instrument's lines on a day in a tier
+abbrev pub tier_closings : CaseView → Plan → ℕ → ℕ → ℕ → List ℤ
+tier_closings c a i u j = map (λ l. a.amount l u j) (lines_of c i)
 
--- 5, by instrument and day: the sum of the amounts of its lines is at most its limit times d
-abbrev pub day_closings : CaseView → Amounts → ℕ → ℕ → List ℤ
-day_closings c a i u = map (λ l. a l u) (lines_of c i)
+-- 5, by instrument, day and tier: their sum is at most limit times denominator; on the expiry without a step
+abbrev pub limit_test : CaseView → Plan → ℕ → ℕ → ℕ → Test
+limit_test c a i u j =
+    if counts c i u then against (limit c i u j *ℤ a.den) int_le (tier_closings c a i u j) else plain true
 
-abbrev pub limit_test : CaseView → ℤ → Amounts → ℕ → ℕ → Test
-limit_test c d a i u = record {
-  numbers = partial_sums (pos 0) (day_closings c a i u) ++ ((limit c i u *ℤ d) ∷ []);
-  holds = int_le (total (day_closings c a i u)) (limit c i u *ℤ d);
-}
+-- the amounts of a member's instrument on a day, by line and tier
+abbrev pub day_closings : CaseView → Plan → ℕ → ℕ → List ℤ
+day_closings c a u m = pairs (lines_of c (member c m).instrument) (days_to (tiers c)) (λ l j. a.amount l u j)
 
--- 6, by pool and day: the sum over its members of weight times what is closed of the member's instrument, summed by
--- line, is at most the cap times d
-abbrev pub weighted_closing : CaseView → Amounts → ℕ → ℕ → ℤ
-weighted_closing c a u m = (member c m).weight *ℤ total (day_closings c a (member c m).instrument u)
+-- a member's weight times their sum, and these of a pool's members that count
+abbrev pub weighted_closing : CaseView → Plan → ℕ → ℕ → ℤ
+weighted_closing c a u m = (member c m).weight *ℤ total (day_closings c a u m)
 
-abbrev pub pool_terms : CaseView → Amounts → ℕ → ℕ → List ℤ
-pool_terms c a p u = map (weighted_closing c a u) (members_of_pool c p)
+abbrev pub pool_terms : CaseView → Plan → ℕ → ℕ → List ℤ
+pool_terms c a p u = map (weighted_closing c a u) (members_of_pool c p u)
 
-abbrev pub pool_test : CaseView → ℤ → Amounts → ℕ → ℕ → Test
-pool_test c d a p u = record {
-  numbers = each (members_of_pool c p) (λ m. partial_sums (pos 0) (day_closings c a (member c m).instrument u))
-      ++ pool_terms c a p u ++ partial_sums (pos 0) (pool_terms c a p u) ++ (((pool c p).cap *ℤ d) ∷ []);
-  holds = int_le (total (pool_terms c a p u)) ((pool c p).cap *ℤ d);
-}
+-- the numbers that these take: the sums of the amounts, and the products
+abbrev pub pool_numbers : CaseView → Plan → ℕ → ℕ → List ℤ
+pool_numbers c a p u =
+    each (members_of_pool c p u) (λ m. partial_sums (pos 0) (day_closings c a u m)) ++ pool_terms c a p u
 
--- 7, by scenario and house day: minus the cash is at most the loss, where the cash is d times the fixed cash, then
--- amount times unit by line and by allowed day
-abbrev pub cash_terms : CaseView → ℤ → Amounts → ℕ → ℕ → List ℤ
-cash_terms c d a k t =
-    (d *ℤ fixed c t) ∷ each (below (line_count c)) (λ l. map (λ u. a l u *ℤ unit c l k u t) (filter (is_allowed c l) (days_to c.horizon)))
+-- 6, by pool and day: the sum of its members' weighted closings is at most the cap times the denominator
+abbrev pub pool_test : CaseView → Plan → ℕ → ℕ → Test
+pool_test c a p u =
+    let sum : Test = against ((pool c p).cap *ℤ a.den) int_le (pool_terms c a p u) in
+    record { numbers = pool_numbers c a p u ++ sum.numbers; holds = sum.holds }
 
-abbrev pub loss_test : CaseView → ℤ → Amounts → ℤ → ℕ → ℕ → Test
-loss_test c d a loss k t = of_terms (cash_terms c d a k t) (int_le (neg_ℤ (total (cash_terms c d a k t))) loss)
+-- the cash of a scenario on a day: denominator times fixed cash, then amount times unit by allowed closing
+abbrev pub cash_terms : CaseView → Plan → ℕ → ℕ → List ℤ
+cash_terms c a k t =
+    (a.den *ℤ fixed c t)
+    ∷ each (below (line_count c)) (λ l. by_allowed c l (λ u j. a.amount l u j *ℤ unit c l k u j t))
+
+-- 7, by scenario and house day: minus the cash is at most the loss
+abbrev pub loss_test : CaseView → Plan → ℤ → ℕ → ℕ → Test
+loss_test c a loss k t = of_terms (cash_terms c a k t) (int_le (neg_ℤ (total (cash_terms c a k t))) loss)
 
 -- 8: at one place of condition 7 minus the cash is the loss
-abbrev pub reached_test : CaseView → ℤ → Amounts → ℤ → Test
-reached_test c d a loss =
-    plain (list_any (λ cash. int_eq (neg_ℤ cash) loss) (by_scenario_and_day c (λ k t. total (cash_terms c d a k t))))
+abbrev pub reached_test : CaseView → Plan → ℤ → Test
+reached_test c a loss =
+    plain (list_any (λ terms. int_eq (neg_ℤ (total terms)) loss) (by_scenario_and_day c (cash_terms c a)))
 
--- 9: the weights by scenario and house day, by instrument and day and by pool and day are at least 0, and the full
--- weight of a collateral line is at most 0; all are numbered through
+-- the weights of scenarios, limits and pools are at least 0
 abbrev pub scenario_sign : CaseView → Weights → ℕ → ℕ → Test
 scenario_sign c w k t = plain (int_le (pos 0) (scenario_weight c w k t))
 
-abbrev pub limit_sign : CaseView → Weights → ℕ → ℕ → Test
-limit_sign c w i u = plain (int_le (pos 0) (limit_weight c w i u))
+abbrev pub limit_sign : CaseView → Weights → ℕ → ℕ → ℕ → Test
+limit_sign c w i u j = plain (int_le (pos 0) (limit_weight c w i u j))
 
 abbrev pub pool_sign : CaseView → Weights → ℕ → ℕ → Test
 pool_sign c w p u = plain (int_le (pos 0) (pool_weight c w p u))
 
+-- the full weight of a collateral line is at most 0
 abbrev pub is_full_sign : Side → ℤ → Bool
 is_full_sign Position z = true
 is_full_sign Collateral z = int_le z (pos 0)
@@ -154,74 +176,85 @@ is_full_sign Collateral z = int_le z (pos 0)
 abbrev pub full_sign : CaseView → Weights → ℕ → Test
 full_sign c w l = plain (is_full_sign (line c l).side (full_weight w l))
 
+-- 9, numbered through: the signs by scenario and day, by instrument, day and tier, by pool and day, by line
 abbrev pub weight_tests : CaseView → Weights → List Test
 weight_tests c w =
     by_scenario_and_day c (scenario_sign c w)
-    ++ by_instrument_and_day c (limit_sign c w)
+    ++ by_limit c (limit_sign c w)
     ++ by_pool_and_day c (pool_sign c w)
     ++ by_line c (full_sign c w)
 
--- 10: the sum of the scenario weights is the weights' denominator, or 0 where the weights refuse
+-- the scenario weights, by scenario and house day
 abbrev pub scenario_terms : CaseView → Weights → List ℤ
 scenario_terms c w = by_scenario_and_day c (scenario_weight c w)
 
+-- 10: their sum is the weights' denominator, or 0 where the weights refuse
 abbrev pub sum_test : CaseView → Weights → ℤ → Test
 sum_test c w losses = of_terms (scenario_terms c w) (int_eq (total (scenario_terms c w)) losses)
 
--- 11, by line and day: an allowed closing is charged at least the full weight of its line. It is charged the limit
--- weight of its instrument, plus pool weight times weight over the instrument's members, minus scenario weight times
--- unit by scenario and house day.
-abbrev pub charge_terms : CaseView → Weights → ℕ → ℕ → List ℤ
-charge_terms c w l u =
-    limit_weight c w (instrument_of c l) u
-    ∷ (map (λ m. pool_weight c w (member c m).pool u *ℤ (member c m).weight) (members_of_instrument c (instrument_of c l))
-    ++ by_scenario_and_day c (λ k t. neg_ℤ (scenario_weight c w k t *ℤ unit c l k u t)))
+-- limit weight, then pool weight times weight over the instrument's members; nothing on its expiry
+abbrev pub limit_terms : CaseView → Weights → ℕ → ℕ → ℕ → List ℤ
+limit_terms c w i u j =
+    if counts c i u
+    then limit_weight c w i u j
+    ∷ map (λ m. pool_weight c w (member c m).pool u *ℤ (member c m).weight) (members_of_instrument c i)
+    else []
 
-abbrev pub charge_test : CaseView → Weights → ℕ → ℕ → Test
-charge_test c w l u =
-    if is_allowed c l u then of_terms (charge_terms c w l u) (int_le (full_weight w l) (total (charge_terms c w l u))) else plain true
+-- minus scenario weight times unit, by scenario and house day
+abbrev pub unit_terms : CaseView → Weights → ℕ → ℕ → ℕ → List ℤ
+unit_terms c w l u j = by_scenario_and_day c (λ k t. neg_ℤ (scenario_weight c w k t *ℤ unit c l k u j t))
 
--- 12: the bound over the weights' denominator is the loss over d, or the bound is above 0 where the weights refuse. The
--- bound is 0 minus scenario weight times fixed cash, plus full weight times amount by line, minus limit times limit
--- weight, minus cap times pool weight. Two fractions over denominators of 1 at least are the same where their cross
--- products are, and a comparison in lowest terms takes no product: the cross products are none of the numbers.
+-- what the weights charge a closing
+abbrev pub charge_terms : CaseView → Weights → ℕ → ℕ → ℕ → List ℤ
+charge_terms c w l u j = limit_terms c w (instrument_of c l) u j ++ unit_terms c w l u j
+
+-- 11, by line, day and tier: an allowed closing is charged at least the full weight of its line
+abbrev pub charge_test : CaseView → Weights → ℕ → ℕ → ℕ → Test
+charge_test c w l u j =
+    if is_allowed c l u j
+    then of_terms (charge_terms c w l u j) (int_le (full_weight w l) (total (charge_terms c w l u j)))
+    else plain true
+
+-- the bound: minus scenario weight by fixed cash, plus full weight by amount, minus limit and cap by weight
 abbrev pub bound_terms : CaseView → Weights → List ℤ
 bound_terms c w =
     by_scenario_and_day c (λ k t. neg_ℤ (scenario_weight c w k t *ℤ fixed c t))
     ++ by_line c (λ l. full_weight w l *ℤ (line c l).amount)
-    ++ by_instrument_and_day c (λ i u. neg_ℤ (limit c i u *ℤ limit_weight c w i u))
+    ++ by_limit c (λ i u j. neg_ℤ (limit c i u j *ℤ limit_weight c w i u j))
     ++ by_pool_and_day c (λ p u. neg_ℤ ((pool c p).cap *ℤ pool_weight c w p u))
 
+-- 12: the bound over its denominator is the loss over its own; the cross products are no steps
 abbrev pub meets_test : CaseView → Weights → ℤ → ℤ → Test
 meets_test c w d loss = of_terms (bound_terms c w) (int_eq (total (bound_terms c w) *ℤ d) (loss *ℤ w.den))
 
+-- 12 of weights that refuse: the bound is above 0
 abbrev pub refuses_test : CaseView → Weights → Test
 refuses_test c w = of_terms (bound_terms c w) (int_lt (pos 0) (total (bound_terms c w)))
 
 -- the places of conditions 2 to 8, which judge a calendar
-abbrev pub calendar_places : CaseView → ℤ → Amounts → ℤ → List Place
-calendar_places c d a loss =
-    places_of 2 1 (by_line_and_day c (sign_test a))
-    ++ places_of 3 1 (by_line_and_day c (allowed_test c a))
-    ++ places_of 4 1 (by_line c (full_test c d a))
-    ++ places_of 5 1 (by_instrument_and_day c (limit_test c d a))
-    ++ places_of 6 1 (by_pool_and_day c (pool_test c d a))
-    ++ places_of 7 1 (by_scenario_and_day c (loss_test c d a loss))
-    ++ places_of 8 1 (reached_test c d a loss ∷ [])
+abbrev pub calendar_places : CaseView → Plan → ℤ → List Place
+calendar_places c a loss =
+    places_of 2 1 (by_closing c (sign_test a))
+    ++ places_of 3 1 (by_closing c (allowed_test c a))
+    ++ places_of 4 1 (by_line c (full_test c a))
+    ++ places_of 5 1 (by_limit c (limit_test c a))
+    ++ places_of 6 1 (by_pool_and_day c (pool_test c a))
+    ++ places_of 7 1 (by_scenario_and_day c (loss_test c a loss))
+    ++ places_of 8 1 (reached_test c a loss ∷ [])
 
--- the places of conditions 9 to 12, which judge the weights, given the sum of the scenario weights and the last test
+-- the places of conditions 9 to 12, which judge the weights, given the sum of condition 10 and the last test
 abbrev pub weight_places : CaseView → Weights → ℤ → Test → List Place
 weight_places c w losses last =
     places_of 9 1 (weight_tests c w)
     ++ places_of 10 1 (sum_test c w losses ∷ [])
-    ++ places_of 11 1 (by_line_and_day c (charge_test c w))
+    ++ places_of 11 1 (by_closing c (charge_test c w))
     ++ places_of 12 1 (last ∷ [])
 
 -- all places of a certificate, in order; one that refuses has no calendar to judge
 abbrev pub places : CaseView → Cert → List Place
 places c (Closes calendar loss weights) =
     places_of 1 1 (denominator_test calendar.den ∷ denominator_test weights.den ∷ [])
-    ++ calendar_places c calendar.den (amounts_of c calendar) loss
+    ++ calendar_places c (plan_of c calendar) loss
     ++ weight_places c weights weights.den (meets_test c weights calendar.den loss)
 places c (Cannot weights) =
     places_of 1 2 (denominator_test weights.den ∷ [])
@@ -231,7 +264,7 @@ places c (Cannot weights) =
 abbrev pub IsValid : CaseView → Cert → Type 0
 IsValid c cert = IsTrue (list_all (λ p. p.test.holds) (places c cert))
 
--- What the check says: that all is well, or the condition and place that does not hold or whose numbers leave 128 bits.
+-- What the check says: that all is well, or the condition and place that does not hold or leaves 128 bits.
 pub data Verdict : Type 0 where
   Passed : Verdict
   Failed : ℕ → ℕ → Verdict

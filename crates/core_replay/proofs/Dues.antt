@@ -5,7 +5,7 @@ use Rattle.std.proofs.lemmas.List.{map-append, get_or-set_same, get_or-set_other
 use Rattle.std.proofs.lemmas.List.Elements.{filter-append}
 use Rattle.std.proofs.lemmas.Bool.{eq-eqb, eqb-true, ne_eqb}
 use Rattle.core_sums.specs.Places.{below, days_to, each, row_at}
-use Rattle.core_case.specs.View.{CaseView, instrument_of, is_open, instrument, pays}
+use Rattle.core_book.specs.View.{CaseView, instrument_of, is_open, instrument, pays}
 use Rattle.core_model.specs.Closing.{Amounts, line_count, flow}
 use Rattle.core_days.specs.Days.{IsPayDay, pay_day}
 use Rattle.core_days.proofs.PayDays.{pay_day-shows}

@@ -8,7 +8,7 @@ use Rattle.core_sums.specs.Places.{at}
 use Rattle.core_sums.specs.Widths.{most, leaves, any_leaves}
 use Rattle.core_sums.proofs.SumLaws.{greatest_to-bounds, greatest_to-le}
 use Rattle.core_sums.proofs.Kept.{stays-kept}
-use Rattle.core_case.specs.View.{CaseView, cash}
+use Rattle.core_book.specs.View.{CaseView, cash}
 use Rattle.std.specs.Prelude.{◌*ℤ◌}
 use Rattle.core_model.specs.Closing.{Amounts, cash_of, loss_of, worst_loss}
 use Rattle.core_model.specs.Fits.{IsKept}

@@ -8,9 +8,9 @@ use Rattle.core_replay.specs.Ledger.{closing_numbers}
 use Rattle.core_sums.proofs.Leaving.{first-leaves, none-one}
 use Rattle.core_days.specs.Days.{open_day_before}
 use Rattle.core_sums.specs.Sums.{sum_below, sum_days}
-use Rattle.core_case.specs.View.{CaseView, instrument, line, instrument_of, price, is_open, day_before}
-use Rattle.core_case.specs.declared.parts.Kind.{Kind}
-use Rattle.core_case.specs.declared.parts.Kind.TheVariants.{Future, Security}
+use Rattle.core_book.specs.View.{CaseView, instrument, line, instrument_of, price, is_open, day_before}
+use Rattle.core_book.specs.declared.parts.Kind.{Kind}
+use Rattle.core_book.specs.declared.parts.Kind.TheVariants.{Future, Security}
 use Rattle.core_model.specs.Closing.{Amounts, size, still_open, flow_by, flow}
 use Rattle.core_wide.specs.Steps.{Leaves, Stays}
 use Rattle.core_replay.specs.Steps.{unit_by, unit_of, base_by, base_of}

@@ -3,8 +3,8 @@ use Rattle.std.proofs.Common.{◌≡◌, refl, ◌^◌, pos, negsuc, [], ◌∷�
 use Rattle.core_sums.specs.Sums.{sum_below, partial_sums}
 use Rattle.core_sums.specs.Places.{has, least_below, below, days_to, each}
 use Rattle.core_days.specs.Days.{working_dates, open_days, open_day_before}
-use Rattle.core_case.specs.View.{CaseView}
-use Rattle.core_case.specs.declared.parts.Kind.TheVariants.{Future}
+use Rattle.core_book.specs.View.{CaseView}
+use Rattle.core_book.specs.declared.parts.Kind.TheVariants.{Future}
 use Rattle.core_model.specs.Closing.{Amounts}
 use Rattle.core_model.specs.Bounds.{amounts_of}
 use Rattle.core_model.proofs.WorkedCases.{numbers, dipping, one_position}

@@ -5,7 +5,7 @@ use Rattle.std.proofs.lemmas.Bool.{cases_lt}
 use Rattle.core_sums.specs.Sums.{sum_below}
 use Rattle.core_sums.specs.Places.{at, row_at}
 use Rattle.core_sums.specs.Widths.{any_leaves, leaves, most}
-use Rattle.core_case.specs.View.{CaseView, cash, instrument_of}
+use Rattle.core_book.specs.View.{CaseView, cash, instrument_of}
 use Rattle.core_model.specs.Closing.{Amounts, cash_of}
 use Rattle.core_replay.specs.Ledger.{paid_on, opening_numbers, lines_numbers, paid_numbers, day_leaves, flows_until}
 use Rattle.core_replay.specs.Steps.{AreStanding, AreDue, sum_numbers, later_numbers}

@@ -4,7 +4,7 @@ use Rattle.std.proofs.lemmas.List.{get_or-set_same, get_or-set_other, get_or_app
 use Rattle.std.proofs.lemmas.Bool.{cases_lt}
 use Rattle.core_sums.specs.Places.{below, each, row_at}
 use Rattle.core_sums.specs.Widths.{any_leaves}
-use Rattle.core_case.specs.View.{CaseView, line, instrument_of}
+use Rattle.core_book.specs.View.{CaseView, line, instrument_of}
 use Rattle.core_model.specs.Closing.{Amounts, line_count}
 use Rattle.core_replay.specs.Ledger.{opening_numbers, line_numbers, lines_numbers}
 use Rattle.core_wide.specs.Steps.{Stays, Leaves}

@@ -5,7 +5,7 @@ use Rattle.core_sums.specs.Sums.{sum_below, sum_days, total, partial_sums}
 use Rattle.core_sums.specs.Places.{below}
 use Rattle.core_sums.proofs.SumLaws.{sum_below-cong, sum_below-none, sum_below-plus, sum_below-scale, sum_below-swap, sum_below-cut, sum_below-single}
 use Rattle.core_sums.proofs.Lists.{total-append, total-filter, total-below}
-use Rattle.core_case.specs.View.{CaseView, instrument_of, cash, pays}
+use Rattle.core_book.specs.View.{CaseView, instrument_of, cash, pays}
 use Rattle.core_model.specs.Closing.{Amounts, line_count, flow, fixed, is_by, is_paid_by, cash_of}
 use Rattle.core_replay.specs.Ledger.{is_on, is_paid_on, paid_on, flows_of_day, flows_until, paid_numbers}
 use Rattle.core_sums.specs.Widths.{any_leaves}

@@ -2,7 +2,7 @@
 use Rattle.std.specs.Prelude.{◌≡◌, ℕ, suc, ◌≤◌, ℤ, List, length, true}
 use Rattle.core_sums.specs.Places.{at}
 use Rattle.core_sums.specs.Widths.{any_leaves}
-use Rattle.core_case.specs.View.{CaseView}
+use Rattle.core_book.specs.View.{CaseView}
 use Rattle.core_model.specs.Closing.{Amounts, cash_of, worst_loss}
 use Rattle.core_replay.specs.Ledger.{paid_on, LeavesOn, LeavesFirst, IsWorstAt, NoneLeaves, StaysIn}
 use Rattle.core_replay.specs.declared.ledger.Ledger.{Ledger}

@@ -4,7 +4,7 @@ use Rattle.std.specs.List.{filter}
 use Rattle.core_sums.specs.Sums.{sum_below, sum_days, partial_sums}
 use Rattle.core_sums.specs.Places.{below, days_to, each}
 use Rattle.core_sums.specs.Widths.{any_leaves}
-use Rattle.core_case.specs.View.{CaseView, line, instrument_of, cash, pays}
+use Rattle.core_book.specs.View.{CaseView, line, instrument_of, cash, pays}
 use Rattle.core_model.specs.Closing.{Amounts, line_count, still_open, flow, cash_of, loss_of, worst_loss}
 
 -- whether a flow that is paid on such a day is paid on day t

@@ -2,7 +2,7 @@
 use Rattle.std.specs.Prelude.{◌≡◌, ℕ, suc, ◌-◌, ◌<◌, ℤ, List, length}
 use Rattle.core_sums.specs.Sums.{sum_below}
 use Rattle.core_sums.specs.Places.{at}
-use Rattle.core_case.specs.View.{CaseView}
+use Rattle.core_book.specs.View.{CaseView}
 use Rattle.core_model.specs.Closing.{Amounts, cash_of}
 use Rattle.core_replay.specs.Ledger.{paid_on}
 use Rattle.core_replay.specs.Steps.{AreStanding, AreDue}

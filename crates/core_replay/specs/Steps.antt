@@ -1,9 +1,9 @@
 -- Where a replay stands between its steps.
 use Rattle.std.specs.Prelude.{◌≡◌, ℕ, suc, ◌<◌, ◌≤◌, ℤ, pos, ◌-ℤ◌, ◌*ℤ◌, nat_le, List, [], ◌∷◌, ◌++◌, length, get_or, if◌then◌else◌, Option, Some, None, slice_set}
 use Rattle.core_sums.specs.Places.{row_at}
-use Rattle.core_case.specs.View.{CaseView, instrument, instrument_of, cash, day_before, price}
-use Rattle.core_case.specs.declared.parts.Kind.{Kind}
-use Rattle.core_case.specs.declared.parts.Kind.TheVariants.{Future, Security}
+use Rattle.core_book.specs.View.{CaseView, instrument, instrument_of, cash, day_before, price}
+use Rattle.core_book.specs.declared.parts.Kind.{Kind}
+use Rattle.core_book.specs.declared.parts.Kind.TheVariants.{Future, Security}
 use Rattle.core_model.specs.Closing.{Amounts, line_count, size, still_open, cash_of}
 use Rattle.core_replay.specs.Ledger.{flows_of_day, flows_until, lines_numbers, paid_numbers}
 use Rattle.core_replay.specs.declared.lines.Standing.{Standing}

@@ -1,7 +1,7 @@
 -- The worst loss of some scenarios and days.
 use Rattle.std.specs.Prelude.{◌≡◌, ℕ, ◌<◌, ◌≤◌, List, ℤ, neg_ℤ, ◌≤ℤ◌, ◌<ℤ◌}
 use Rattle.core_sums.specs.Places.{at}
-use Rattle.core_case.specs.View.{CaseView}
+use Rattle.core_book.specs.View.{CaseView}
 use Rattle.core_model.specs.Closing.{Amounts, loss_of}
 use Rattle.core_replay.specs.Ledger.{StaysIn}
 use Rattle.core_replay.specs.declared.losses.WorstLoss.{WorstLoss}

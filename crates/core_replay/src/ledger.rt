@@ -2,7 +2,7 @@
 ghost use Rattle.std.specs.Prelude.{◌≡◌, ◌<◌, ◌≤◌, suc, pos, ◌≤ℤ◌, true, false, length, replicate, MatchOption, IfOk, IfErr};
 ghost use Rattle.core_sums.specs.Sums.{sum_below};
 ghost use Rattle.core_sums.specs.Widths.{any_leaves};
-ghost use Rattle.core_case.specs.Kept.{IsCase};
+ghost use Rattle.core_book.specs.Kept.{IsCase};
 ghost use Rattle.core_model.specs.Closing.{cash_of};
 ghost use Rattle.core_model.specs.Bounds.{amounts_of};
 ghost use Rattle.core_model.specs.Fits.{CalendarFits};
@@ -14,7 +14,7 @@ ghost use Rattle.core_replay.specs.Answers.{IsLedger, StopsReplay, StopsOn};
 use crate::due::DueFlows;
 use crate::fault::ReplayFault;
 use crate::lines::{Standing, day_lines, open_lines};
-use core_case::Case;
+use core_book::Case;
 use core_model::{Calendar, Numbers};
 use core_wide::{plus, sum_from, times};
 use std::alloc::{AllocError, Global};

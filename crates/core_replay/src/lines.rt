@@ -1,8 +1,8 @@
 // The lines of a book on the days of a replay.
 ghost use Rattle.std.specs.Prelude.{◌≡◌, ◌<◌, ◌≤◌, ◌-◌, ◌-ℤ◌, ◌++◌, ◌∷◌, [], suc, true, false, length, MatchOption, IfOk, IfErr};
 ghost use Rattle.core_sums.specs.Widths.{any_leaves};
-ghost use Rattle.core_case.specs.Kept.{IsCase};
-ghost use Rattle.core_case.specs.View.{instrument_of, day_before, price, pays};
+ghost use Rattle.core_book.specs.Kept.{IsCase};
+ghost use Rattle.core_book.specs.View.{instrument_of, day_before, price, pays};
 ghost use Rattle.core_model.specs.Closing.{line_count, size, flow, still_open};
 ghost use Rattle.core_model.specs.Bounds.{amounts_of};
 ghost use Rattle.core_model.specs.Fits.{CalendarFits};
@@ -13,7 +13,7 @@ ghost use Rattle.core_replay.specs.Answers.{StopsOn};
 
 use crate::due::DueFlows;
 use crate::fault::ReplayFault;
-use core_case::{Case, Kind};
+use core_book::{Case, Kind};
 use core_model::Calendar;
 use core_wide::{minus, times};
 use std::alloc::{AllocError, Global};

@@ -8,7 +8,7 @@ ghost use Rattle.core_replay.specs.Worse.{loss_at, IsWorstOfDays};
 
 use crate::fault::ReplayFault;
 use crate::ledger::{Ledger, replay};
-use core_case::Case;
+use core_book::Case;
 use core_model::Calendar;
 use std::alloc::Global;
 

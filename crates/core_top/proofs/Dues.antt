@@ -1,7 +1,7 @@
 -- What is owed to the words, from what is read under their names and what the check says.
 use Rattle.std.proofs.Common.{◌≡◌, refl, sym, ◌∙◌, subst, ℕ, ◌<◌, ◌≤◌, List, length, arith, Bool, true, false, if◌then◌else◌, Option, Some, None, IfSome, IsSome, Result, Ok, Err}
 use Rattle.core_io.specs.Causes.{Rose}
-use Rattle.core_case.specs.View.{CaseView}
+use Rattle.core_book.specs.View.{CaseView}
 use Rattle.core_case.specs.Stated.{case_of_bytes}
 use Rattle.core_model.specs.declared.cert.Cert.{Cert}
 use Rattle.core_model.specs.Shows.{Shows}

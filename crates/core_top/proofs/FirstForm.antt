@@ -7,14 +7,14 @@ use Rattle.std.specs.List.{All, list_any}
 use Rattle.std.specs.Ordering.{int_eq}
 use Rattle.core_sums.specs.Places.{at, row_at, has}
 use Rattle.core_days.specs.Days.{is_open_on}
-use Rattle.core_case.specs.View.{CaseView, date, instrument_of, has_holidays, has_cash}
-use Rattle.core_case.specs.Kept.{IsCase, IsMember}
-use Rattle.core_case.specs.declared.parts.Member.{Member}
+use Rattle.core_book.specs.View.{CaseView, date, instrument_of, has_holidays, has_cash}
+use Rattle.core_book.specs.Kept.{IsCase, IsMember}
+use Rattle.core_book.specs.declared.parts.Member.{Member}
 use Rattle.core_case.specs.Stated.{case_of_bytes}
-use Rattle.core_case.specs.declared.parts.Kind.{Kind}
-use Rattle.core_case.specs.declared.parts.Kind.TheVariants.{Future, Security}
-use Rattle.core_case.specs.declared.parts.Side.{Side}
-use Rattle.core_case.specs.declared.parts.Side.TheVariants.{Position, Collateral}
+use Rattle.core_book.specs.declared.parts.Kind.{Kind}
+use Rattle.core_book.specs.declared.parts.Kind.TheVariants.{Future, Security}
+use Rattle.core_book.specs.declared.parts.Side.{Side}
+use Rattle.core_book.specs.declared.parts.Side.TheVariants.{Position, Collateral}
 use Rattle.core_top.specs.OneFuture.{IsOneFuture, is_future, is_position, is_one_position, is_one_future}
 use Rattle.core_top.specs.Due.{HasCase}
 

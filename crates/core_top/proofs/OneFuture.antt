@@ -5,9 +5,9 @@ use Rattle.std.proofs.Math.IntN.{*ℤ-zero}
 use Rattle.core_sums.specs.Sums.{sum_below, sum_days}
 use Rattle.core_sums.proofs.SumLaws.{sum_below-cong, sum_below-single, sum_below-zero}
 use Rattle.core_days.specs.Days.{open_day_before}
-use Rattle.core_case.specs.View.{CaseView, instrument, line, instrument_of, price, cash, is_open, day_before}
-use Rattle.core_case.specs.declared.parts.Kind.{Kind}
-use Rattle.core_case.specs.declared.parts.Kind.TheVariants.{Future}
+use Rattle.core_book.specs.View.{CaseView, instrument, line, instrument_of, price, cash, is_open, day_before}
+use Rattle.core_book.specs.declared.parts.Kind.{Kind}
+use Rattle.core_book.specs.declared.parts.Kind.TheVariants.{Future}
 use Rattle.core_top.specs.OneFuture.{IsOneFuture, gain}
 use Rattle.core_model.specs.Closing.{Amounts, size, still_open, flow_by, flow, is_paid_by, fixed, paid_flows, cash_of}
 

@@ -8,8 +8,8 @@ use Rattle.std.proofs.lemmas.List.{get_or-replicate, length-replicate, get_or-se
 use Rattle.std.proofs.lemmas.List.Elements.{All-cons, All-nil}
 use Rattle.std.specs.List.{All}
 use Rattle.core_sums.specs.Widths.{most}
-use Rattle.core_case.specs.View.{CaseView, instrument, line, instrument_of, no_line, no_instrument, price}
-use Rattle.core_case.specs.Kept.{IsCase, IsLine, IsInstrument}
+use Rattle.core_book.specs.View.{CaseView, instrument, line, instrument_of, no_line, no_instrument, price}
+use Rattle.core_book.specs.Kept.{IsCase, IsLine, IsInstrument}
 use Rattle.core_model.specs.Closing.{size}
 use Rattle.core_model.specs.Fits.{IsKept, AreKept, WeightsFit, Fits}
 use Rattle.core_cert.specs.Written.{IsPlainlyRefusing}

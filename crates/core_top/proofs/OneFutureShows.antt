@@ -11,10 +11,10 @@ use Rattle.core_sums.proofs.Ring.{neg-*ℤ, *ℤ-pos_one}
 use Rattle.core_sums.proofs.Order.{sum_below-chosen, times-nonneg}
 use Rattle.core_days.specs.Days.{pay_day}
 use Rattle.core_days.proofs.Opens.{pay_day-all_open}
-use Rattle.core_case.specs.View.{CaseView, instrument, line, instrument_of, member, pool, no_line, limit, is_open, pays, is_allowed}
-use Rattle.core_case.specs.Kept.{IsCase, IsLine}
-use Rattle.core_case.specs.declared.parts.Side.{Side}
-use Rattle.core_case.specs.declared.parts.Side.TheVariants.{Position, Collateral}
+use Rattle.core_book.specs.View.{CaseView, instrument, line, instrument_of, member, pool, no_line, limit, is_open, pays, is_allowed}
+use Rattle.core_book.specs.Kept.{IsCase, IsLine}
+use Rattle.core_book.specs.declared.parts.Side.{Side}
+use Rattle.core_book.specs.declared.parts.Side.TheVariants.{Position, Collateral}
 use Rattle.core_model.specs.Closing.{Amounts, IsClosingDay, closed_of, IsAdmissible, ClosesLine, is_by, is_paid_by, fixed, cash_of, loss_of, worst_loss}
 use Rattle.core_model.specs.Bounds.{amounts_of, alone, one_on, unit, scenario_weight, limit_weight, pool_weight, pool_charge, full_weight, sum_losses, sum_limits, sum_pools, charge, AreWeights, AreBounding, AreRefusing, bound}
 use Rattle.core_model.specs.Shows.{ShowsLeast, ShowsNone, Shows}

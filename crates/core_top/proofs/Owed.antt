@@ -1,9 +1,9 @@
 -- What an answer that is owed, or that failed, meets of what the top call owes.
 use Rattle.std.proofs.Common.{◌≡◌, refl, sym, ◌∙◌, ap, subst, ℕ, ◌<◌, ◌≤◌, ◌⊎◌, inl, inr, List, length, arith, true, Option, Some, None, IsSome, Result, Ok, Err}
 use Rattle.core_io.specs.Causes.{AppendsPart}
-use Rattle.core_case.specs.View.{CaseView}
+use Rattle.core_book.specs.View.{CaseView}
 use Rattle.core_case.specs.Stated.{case_of_bytes}
-use Rattle.core_case.specs.Kept.{IsCase}
+use Rattle.core_book.specs.Kept.{IsCase}
 use Rattle.core_model.specs.declared.cert.Cert.{Cert}
 use Rattle.core_model.specs.declared.cert.Cert.TheVariants.{Closes, Cannot}
 use Rattle.core_model.specs.Shows.{Shows}

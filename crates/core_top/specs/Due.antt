@@ -2,7 +2,7 @@
 use Rattle.std.specs.Prelude.{◌≡◌, ℕ, ◌<◌, ◌≤◌, List, [], ◌∷◌, length, codes, decimal, ⊤, true, false, if◌then◌else◌, Option, Some, None, IsSome, Ok, Err}
 use Rattle.core_rows.specs.Names.{Record}
 use Rattle.core_rows.specs.Fields.{row_text}
-use Rattle.core_case.specs.View.{CaseView}
+use Rattle.core_book.specs.View.{CaseView}
 use Rattle.core_case.specs.Stated.{case_of_bytes}
 use Rattle.core_model.specs.declared.cert.Cert.{Cert}
 use Rattle.core_model.specs.declared.cert.Cert.TheVariants.{Closes, Cannot}

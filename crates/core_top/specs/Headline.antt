@@ -1,7 +1,7 @@
 -- What the top call owes.
 use Rattle.std.specs.Prelude.{◌≡◌, ◌⊎◌, ℕ, ◌<◌, ◌≤◌, List, length, ℤ, ⊤, true, Option, Some, None, IsSome, Ok, Err}
 use Rattle.core_io.specs.Causes.{Rose, Appends, AppendsPart}
-use Rattle.core_case.specs.View.{CaseView}
+use Rattle.core_book.specs.View.{CaseView}
 use Rattle.core_model.specs.declared.cert.Calendar.{Calendar}
 use Rattle.core_model.specs.declared.cert.Weights.{Weights}
 use Rattle.core_model.specs.declared.cert.Cert.{Cert}

@@ -1,10 +1,10 @@
 -- A book of one position in one future that may be closed on day 1 alone, and the certificate of its margin.
 use Rattle.std.specs.Prelude.{◌≡◌, ℕ, suc, ◌+◌, ◌≤◌, List, [], ◌∷◌, length, replicate, slice_set, ℤ, pos, neg_ℤ, ◌-ℤ◌, ◌*ℤ◌, int_le, int_lt, Bool, true, false, not, ◌&&◌, ◌==◌, nat_le, if◌then◌else◌}
-use Rattle.core_case.specs.View.{CaseView, instrument, line, instrument_of, price, cash, limit, is_open, has_holidays, has_cash}
-use Rattle.core_case.specs.declared.parts.Kind.{Kind}
-use Rattle.core_case.specs.declared.parts.Kind.TheVariants.{Future, Security}
-use Rattle.core_case.specs.declared.parts.Side.{Side}
-use Rattle.core_case.specs.declared.parts.Side.TheVariants.{Position, Collateral}
+use Rattle.core_book.specs.View.{CaseView, instrument, line, instrument_of, price, cash, limit, is_open, has_holidays, has_cash}
+use Rattle.core_book.specs.declared.parts.Kind.{Kind}
+use Rattle.core_book.specs.declared.parts.Kind.TheVariants.{Future, Security}
+use Rattle.core_book.specs.declared.parts.Side.{Side}
+use Rattle.core_book.specs.declared.parts.Side.TheVariants.{Position, Collateral}
 use Rattle.core_model.specs.Closing.{size}
 use Rattle.core_model.specs.declared.cert.Weights.{Weights}
 use Rattle.core_model.specs.declared.cert.Cert.{Cert}

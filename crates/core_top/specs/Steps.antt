@@ -1,6 +1,6 @@
 -- What the steps of a call owe: the case and the certificate that are read, or the answer that ends the call.
 use Rattle.std.specs.Prelude.{◌≡◌, ℕ, ◌<◌, ◌≤◌, List, length, Option, Some, IfSome, Result, Ok, Err}
-use Rattle.core_case.specs.View.{CaseView}
+use Rattle.core_book.specs.View.{CaseView}
 use Rattle.core_case.specs.Stated.{case_of_bytes}
 use Rattle.core_model.specs.declared.cert.Cert.{Cert}
 use Rattle.core_model.specs.Shows.{Shows}

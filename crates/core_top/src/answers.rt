@@ -2,7 +2,7 @@
 ghost use Rattle.std.specs.Prelude.{◌≡◌, IfOk};
 ghost use Rattle.core_rows.specs.Fields.{row_text};
 ghost use Rattle.core_rows.specs.Written.{IsPlainRow};
-ghost use Rattle.core_case.specs.Kept.{IsCase};
+ghost use Rattle.core_book.specs.Kept.{IsCase};
 ghost use Rattle.core_cert.specs.Written.{cert_text};
 ghost use Rattle.core_top.specs.OneFuture.{IsOneFuture, one_future_cert};
 ghost use Rattle.core_top.specs.Due.{bad_case_said, case_fault_said, case_status, case_text, cert_status, usage_said};

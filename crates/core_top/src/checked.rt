@@ -1,6 +1,6 @@
 // The answers of the check, each a status and a text.
 ghost use Rattle.std.specs.Prelude.{◌≡◌, IfOk};
-ghost use Rattle.core_case.specs.Kept.{IsCase};
+ghost use Rattle.core_book.specs.Kept.{IsCase};
 ghost use Rattle.core_model.specs.Fits.{Fits};
 ghost use Rattle.core_top.specs.Due.{accepted_said, bad_cert_said, cert_fault_said, refused_said, wide_said};
 ghost use Rattle.core_top.specs.Steps.{Judges};

@@ -1,7 +1,7 @@
 // The files of a call: the case and the certificate under their names.
 ghost use Rattle.std.specs.Prelude.{◌≡◌, ◌≤◌, ℕ, List, Ok, IfOk, IfErr, length};
 ghost use Rattle.core_io.specs.Causes.{Rose};
-ghost use Rattle.core_case.specs.Kept.{IsCase};
+ghost use Rattle.core_book.specs.Kept.{IsCase};
 ghost use Rattle.core_case.specs.Stated.{case_of_bytes};
 ghost use Rattle.core_model.specs.Fits.{Fits};
 ghost use Rattle.core_cert.specs.Stated.{cert_of_bytes};

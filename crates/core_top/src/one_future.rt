@@ -1,8 +1,8 @@
 // The certificate of a book of one future: its calendar is least where the book can be closed, and its weights refuse
 // every calendar where it cannot.
 ghost use Rattle.std.specs.Prelude.{◌≡◌, ◌≤◌, ◌*ℤ◌, neg_ℤ, ◌∷◌, [], pos, true, IfOk};
-ghost use Rattle.core_case.specs.Kept.{IsCase};
-ghost use Rattle.core_case.specs.View.{instrument, instrument_of, line};
+ghost use Rattle.core_book.specs.Kept.{IsCase};
+ghost use Rattle.core_book.specs.View.{instrument, instrument_of, line};
 ghost use Rattle.core_model.specs.Closing.{size};
 ghost use Rattle.core_model.specs.declared.cert.Cert.TheVariants.{Cannot};
 ghost use Rattle.core_top.specs.OneFuture.{IsOneFuture, is_one_future, is_one_position, change, closing_cert, gain, mark_day, may_close, limit_takes, no_weight, weight_on, weights_over_one, closes_with, one_future_cert};

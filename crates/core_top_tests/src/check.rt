@@ -1,5 +1,5 @@
 // The check of a certificate.
-ghost use Rattle.core_case.specs.Kept.{IsCase};
+ghost use Rattle.core_book.specs.Kept.{IsCase};
 
 use core_case::{Case, read_case};
 use core_case_tests::books::{

@@ -1,6 +1,6 @@
 use Rattle.std.proofs.Common.{◌∙◌, sym, ap}
 use Rattle.core_case.specs.Faults.{first_fault, missing_end}
-use Rattle.core_case.specs.Inside.{book_view}
+use Rattle.core_book.specs.Inside.{book_view}
 use Rattle.core_case.specs.Refusals.{RefusesBytes}
 use Rattle.core_case.specs.declared.read.CaseFault.TheVariants.{NoMemory}
 use Rattle.core_rows.proofs.OneByOne.{error-same}

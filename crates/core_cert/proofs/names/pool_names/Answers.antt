@@ -1,5 +1,5 @@
 use Rattle.std.proofs.Common.{ap, arith}
-use Rattle.core_case.specs.View.{no_pool}
+use Rattle.core_book.specs.View.{no_pool}
 use Rattle.core_cert.proofs.NamesApart.{one-more-read}
 use Rattle.core_cert.proofs.names.pool_names.Goals as goal
 

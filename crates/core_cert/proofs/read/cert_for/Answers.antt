@@ -1,5 +1,5 @@
 use Rattle.std.proofs.Common.{◌≡◌, subst, IfOk, IfErr, Ok}
-use Rattle.core_case.specs.View.{CaseView}
+use Rattle.core_book.specs.View.{CaseView}
 use Rattle.core_cert.specs.Refusals.{RefusesRecords}
 use Rattle.core_cert.specs.Stated.{cert_of_records}
 use Rattle.core_cert.proofs.read.cert_for.Goals as goal

@@ -3,7 +3,7 @@ use mir.Syntax.{w128}
 use Rattle.std.proofs.lemmas.Int.{to_z-of_z}
 use Rattle.std.proofs.Math.IntN.{*ℤ-zero}
 use Rattle.core_sums.specs.Places.{at}
-use Rattle.core_case.specs.View.{pool}
+use Rattle.core_book.specs.View.{pool}
 use Rattle.core_check.specs.Cells.{row_of}
 use Rattle.core_wide.specs.Steps.{with_product}
 use Rattle.core_check.proofs.bounds.minus_cap.Goals as goal

@@ -1,7 +1,7 @@
 use Rattle.std.proofs.Common.{◌≡◌, rules, sym, ◌∙◌, ap, ℕ, ℤ, ◌*ℤ◌, pos, FitsSigned, of_z, true, false}
 use mir.Syntax.{w128}
 use Rattle.std.proofs.lemmas.Int.{to_z-of_z}
-use Rattle.core_case.specs.View.{is_allowed}
+use Rattle.core_book.specs.View.{is_allowed}
 use Rattle.core_model.specs.Bounds.{amounts_of, unit}
 use Rattle.core_check.specs.Cells.{row_of, day_of}
 use Rattle.core_wide.specs.Steps.{summed, with_product}

@@ -1,7 +1,7 @@
 use Rattle.std.proofs.Common.{rules, ◌≡◌, sym, ◌∙◌, ap, Some, None, FitsSigned}
 use mir.Syntax.{w128}
 use Rattle.std.proofs.lemmas.Int.{to_z-of_z}
-use Rattle.core_case.specs.View.{instrument_of}
+use Rattle.core_book.specs.View.{instrument_of}
 use Rattle.core_check.specs.Steps.{member_charge, unit_charge}
 use Rattle.core_wide.proofs.Stepping.{sum_to}
 use Rattle.core_check.proofs.ChargeTerms.{limit-summed, charge-limit, charge-pools, charge-whole}

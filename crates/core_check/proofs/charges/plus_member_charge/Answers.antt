@@ -1,7 +1,7 @@
 use Rattle.std.proofs.Common.{◌≡◌, FitsSigned}
 use mir.Syntax.{w128}
 use Rattle.std.proofs.lemmas.Int.{to_z-of_z}
-use Rattle.core_case.specs.View.{member}
+use Rattle.core_book.specs.View.{member}
 use Rattle.core_check.proofs.ChargeTerms.{other-member}
 use Rattle.core_check.proofs.charges.plus_member_charge.Goals as goal
 

@@ -1,7 +1,7 @@
 use Rattle.std.proofs.Common.{◌≡◌, rules, arith, sym, ◌∙◌, ap, ℕ, ◌*◌, pos, ◌||◌, length, map}
 use Rattle.std.specs.Ordering.{int_eq}
 use Rattle.core_sums.specs.Places.{at, below}
-use Rattle.core_case.specs.View.{is_allowed}
+use Rattle.core_book.specs.View.{is_allowed}
 use Rattle.core_model.specs.Bounds.{amounts_of}
 use Rattle.core_model.specs.Check.{places_of, plain, allowed_test}
 use Rattle.core_check.specs.Answers.{answer}

@@ -1,6 +1,6 @@
 use Rattle.std.proofs.Common.{rules, sym, ◌∙◌, ap, ℕ, ◌==◌, pos, [], ◌∷◌, if◌then◌else◌}
 use Rattle.core_sums.specs.Places.{each, below}
-use Rattle.core_case.specs.View.{instrument_of}
+use Rattle.core_book.specs.View.{instrument_of}
 use Rattle.core_model.specs.Closing.{line_count}
 use Rattle.core_model.specs.Bounds.{amounts_of}
 use Rattle.core_wide.specs.Steps.{summed}

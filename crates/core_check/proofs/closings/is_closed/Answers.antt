@@ -1,7 +1,7 @@
 use Rattle.std.proofs.Common.{◌≡◌, rules, sym, ◌∙◌, ap, subst, ◌*ℤ◌, [], Some, FitsSigned, w64}
 use mir.Syntax.{w128}
 use Rattle.std.proofs.lemmas.Int.{to_z-of_z}
-use Rattle.core_case.specs.View.{line}
+use Rattle.core_book.specs.View.{line}
 use Rattle.core_model.specs.Bounds.{amounts_of}
 use Rattle.core_model.specs.Check.{closes_line, closings}
 use Rattle.core_wide.specs.Steps.{Leaves, Stays}

@@ -1,7 +1,7 @@
 use Rattle.std.proofs.Common.{◌≡◌, rules, sym, ◌∙◌, ap, subst, ℕ, ◌*ℤ◌, int_le, FitsSigned, w64}
 use mir.Syntax.{w128}
 use Rattle.std.proofs.lemmas.Int.{to_z-of_z}
-use Rattle.core_case.specs.View.{pool}
+use Rattle.core_book.specs.View.{pool}
 use Rattle.core_model.specs.Bounds.{amounts_of}
 use Rattle.core_model.specs.Check.{pool_terms, pool_test}
 use Rattle.core_check.specs.Cells.{row_of}

@@ -1,7 +1,7 @@
 use Rattle.std.proofs.Common.{◌≡◌, rules, sym, ◌∙◌, ap, ◌==◌, true, false, [], ◌∷◌, if◌then◌else◌, FitsSigned}
 use mir.Syntax.{w128}
 use Rattle.std.proofs.lemmas.Int.{to_z-of_z}
-use Rattle.core_case.specs.View.{instrument_of}
+use Rattle.core_book.specs.View.{instrument_of}
 use Rattle.core_model.specs.Bounds.{amounts_of}
 use Rattle.core_wide.specs.Steps.{summed, with_number}
 use Rattle.core_wide.proofs.Adding.{summed-none}

@@ -2,7 +2,7 @@ use Rattle.std.proofs.Common.{◌≡◌, rules, sym, ◌∙◌, ap, ◌==◌, po
 use mir.Syntax.{w128}
 use Rattle.std.proofs.lemmas.Int.{to_z-of_z}
 use Rattle.std.proofs.lemmas.Bool.{eq-eqb, ne_eqb}
-use Rattle.core_case.specs.View.{member}
+use Rattle.core_book.specs.View.{member}
 use Rattle.core_model.specs.Bounds.{amounts_of}
 use Rattle.core_model.specs.Check.{day_closings}
 use Rattle.core_wide.specs.Steps.{summed, with_product}

@@ -2,7 +2,7 @@ use Rattle.std.proofs.Common.{rules, sym, ◌∙◌, ap, ℕ, ◌==◌, pos, [],
 use Rattle.core_sums.specs.Sums.{partial_sums}
 use Rattle.core_sums.specs.Places.{each, below}
 use Rattle.core_sums.specs.Widths.{any_leaves}
-use Rattle.core_case.specs.View.{member}
+use Rattle.core_book.specs.View.{member}
 use Rattle.core_model.specs.Bounds.{amounts_of}
 use Rattle.core_model.specs.Check.{day_closings, weighted_closing, members_of_pool}
 use Rattle.core_wide.specs.Steps.{summed}

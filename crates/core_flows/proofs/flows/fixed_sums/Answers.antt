@@ -3,7 +3,7 @@ use Rattle.std.proofs.lemmas.Int.{to_z-of_z}
 use mir.Syntax.{w128}
 use mir.Val.{to_z, of_z}
 use Rattle.core_sums.specs.Sums.{sum_below}
-use Rattle.core_case.specs.View.{cash}
+use Rattle.core_book.specs.View.{cash}
 use Rattle.core_model.specs.Closing.{fixed}
 use Rattle.core_flows.proofs.Sizes.{cash-sum-fits, cash-sum-more}
 use Rattle.core_flows.proofs.Lists.{table-none, table-pushed}

@@ -1,6 +1,6 @@
 use Rattle.std.proofs.Common.{◌≡◌}
 use Rattle.core_sums.specs.Sums.{sum_below}
-use Rattle.core_case.specs.View.{cash}
+use Rattle.core_book.specs.View.{cash}
 use Rattle.core_model.specs.Closing.{fixed}
 use Rattle.core_flows.specs.Tables.{IsTable}
 use Rattle.core_flows.proofs.flows.fixed_sums.Given as goal

@@ -1,5 +1,5 @@
 use Rattle.std.proofs.Common.{◌≡◌}
-use Rattle.core_case.specs.View.{pays}
+use Rattle.core_book.specs.View.{pays}
 use Rattle.core_flows.proofs.Lists.{table-pushed}
 use Rattle.core_flows.proofs.tables.pay_days.Goals as goal
 

@@ -1,6 +1,6 @@
 use Rattle.std.proofs.Common.{◌≡◌, rules, ◌-ℤ◌, FitsSigned, w64}
 use Rattle.std.proofs.lemmas.Int.{to_z-of_z}
-use Rattle.core_case.specs.View.{price}
+use Rattle.core_book.specs.View.{price}
 use Rattle.core_flows.proofs.Sizes.{change-fits}
 use Rattle.core_flows.proofs.units.change.Goals as goal
 

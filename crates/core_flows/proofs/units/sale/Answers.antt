@@ -1,7 +1,7 @@
 use Rattle.std.proofs.Common.{◌≡◌, rules, ◌*ℤ◌, FitsSigned}
 use Rattle.std.proofs.lemmas.Int.{to_z-of_z}
 use mir.Syntax.{w128}
-use Rattle.core_case.specs.View.{instrument_of, price}
+use Rattle.core_book.specs.View.{instrument_of, price}
 use Rattle.core_model.specs.Closing.{size}
 use Rattle.core_flows.proofs.Sizes.{sale-within}
 use Rattle.core_flows.proofs.units.sale.Goals as goal

@@ -1,8 +1,8 @@
 use Rattle.std.proofs.Common.{rules, ◌≡◌, sym, ◌∙◌, ap, pos, ◌*ℤ◌, if◌then◌else◌, FitsSigned}
 use Rattle.std.proofs.lemmas.Int.{to_z-of_z}
 use mir.Syntax.{w128}
-use Rattle.core_case.specs.View.{instrument, instrument_of, price}
-use Rattle.core_case.specs.declared.parts.Kind.TheVariants.{Future, Security}
+use Rattle.core_book.specs.View.{instrument, instrument_of, price}
+use Rattle.core_book.specs.declared.parts.Kind.TheVariants.{Future, Security}
 use Rattle.core_model.specs.Closing.{size}
 use Rattle.core_flows.proofs.LookUps.{marked-known, kind-is, future-unit, security-unit}
 use Rattle.core_flows.proofs.units.unit.Goals as goal

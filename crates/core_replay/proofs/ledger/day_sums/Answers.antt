@@ -1,7 +1,7 @@
 use Rattle.std.proofs.Common.{◌≡◌, rules, ◌∙◌, ap, subst, true, ◌*ℤ◌, ◌+ℤ◌, FitsSigned, w64}
 use mir.Syntax.{w128}
 use Rattle.std.proofs.lemmas.Int.{to_z-of_z}
-use Rattle.core_case.specs.View.{cash}
+use Rattle.core_book.specs.View.{cash}
 use Rattle.core_model.specs.Bounds.{amounts_of}
 use Rattle.core_sums.specs.Sums.{partial_sums}
 use Rattle.core_sums.specs.Widths.{any_leaves}

@@ -1,5 +1,5 @@
 use Rattle.std.proofs.Common.{◌≡◌, arith, ap}
-use Rattle.core_case.specs.View.{instrument_of}
+use Rattle.core_book.specs.View.{instrument_of}
 use Rattle.core_model.proofs.Sizes.{line-kept}
 use Rattle.core_replay.proofs.lines.base_of.Goals as goal
 

@@ -1,7 +1,7 @@
 use Rattle.std.proofs.Common.{◌≡◌, rules, sym, ◌∙◌, ap, subst, true, ◌*ℤ◌, FitsSigned, w64, MatchOption}
 use mir.Syntax.{w128}
 use Rattle.std.proofs.lemmas.Int.{to_z-of_z}
-use Rattle.core_case.specs.View.{instrument_of, is_open}
+use Rattle.core_book.specs.View.{instrument_of, is_open}
 use Rattle.core_model.specs.Closing.{flow}
 use Rattle.core_model.specs.Bounds.{amounts_of}
 use Rattle.core_wide.specs.Steps.{Leaves, Stays}

@@ -1,5 +1,5 @@
 use Rattle.std.proofs.Common.{◌≡◌, sym, ◌∙◌, ap, true, false}
-use Rattle.core_case.specs.View.{instrument_of, is_open}
+use Rattle.core_book.specs.View.{instrument_of, is_open}
 use Rattle.core_replay.proofs.Flows.{day_before-open, day_before-closed}
 use Rattle.core_replay.proofs.lines.marked_after.Goals as goal
 

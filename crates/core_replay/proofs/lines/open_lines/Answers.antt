@@ -1,7 +1,7 @@
 use Rattle.std.proofs.Common.{◌≡◌, rules, arith, refl, ◌∙◌, ap, subst, ◌*ℤ◌, ◌<◌, FitsSigned, w64}
 use mir.Syntax.{w128}
 use Rattle.std.proofs.lemmas.Int.{to_z-of_z}
-use Rattle.core_case.specs.View.{line}
+use Rattle.core_book.specs.View.{line}
 use Rattle.core_model.specs.Closing.{line_count}
 use Rattle.core_model.specs.Bounds.{amounts_of}
 use Rattle.core_wide.specs.Steps.{Stays, Leaves}

@@ -1,6 +1,6 @@
 use Rattle.std.proofs.Common.{◌≡◌, rules, refl, ◌∙◌, ap, ◌-ℤ◌, FitsSigned, w64}
 use Rattle.std.proofs.lemmas.Int.{to_z-of_z}
-use Rattle.core_case.specs.View.{instrument_of, price, day_before}
+use Rattle.core_book.specs.View.{instrument_of, price, day_before}
 use Rattle.core_model.proofs.Sizes.{instrument-known, change-fits}
 use Rattle.core_replay.proofs.Sizes.{marked-within}
 use Rattle.core_replay.proofs.lines.price_change.Goals as goal

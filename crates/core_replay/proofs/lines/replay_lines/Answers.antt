@@ -1,7 +1,7 @@
 use Rattle.std.proofs.Common.{◌≡◌, rules, arith, refl, sym, ◌∙◌, ap, subst, ◌<◌, ◌+◌, ◌-◌, ℕ, length, false, FitsSigned, below_more}
 use mir.Syntax.{w128}
 use Rattle.std.proofs.lemmas.Int.{to_z-of_z}
-use Rattle.core_case.specs.View.{instrument_of, pays}
+use Rattle.core_book.specs.View.{instrument_of, pays}
 use Rattle.core_model.specs.Closing.{line_count, flow}
 use Rattle.core_model.specs.Bounds.{amounts_of}
 use Rattle.core_sums.specs.Widths.{any_leaves}

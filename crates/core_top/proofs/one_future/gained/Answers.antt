@@ -1,7 +1,7 @@
 use Rattle.std.proofs.Common.{◌≡◌, rules, refl, ◌∙◌, ap, ◌*ℤ◌, FitsSigned, w64}
 use Rattle.std.proofs.lemmas.Int.{to_z-of_z}
 use mir.Syntax.{w128}
-use Rattle.core_case.specs.View.{line}
+use Rattle.core_book.specs.View.{line}
 use Rattle.core_top.specs.OneFuture.{gain}
 use Rattle.core_top.proofs.OneFutureFits.{gain-fits, whole-wide}
 use Rattle.core_top.proofs.one_future.gained.Goals as goal

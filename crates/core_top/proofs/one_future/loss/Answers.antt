@@ -1,7 +1,7 @@
 use Rattle.std.proofs.Common.{◌≡◌, arith, rules, pos, neg_ℤ, ◌-ℤ◌, ◌*ℤ◌, FitsSigned}
 use Rattle.std.proofs.lemmas.Int.{ints, to_z-of_z}
 use mir.Syntax.{w128}
-use Rattle.core_case.specs.View.{line}
+use Rattle.core_book.specs.View.{line}
 use Rattle.core_top.specs.OneFuture.{gain}
 use Rattle.core_top.proofs.OneFutureFits.{loss-wide}
 use Rattle.core_top.proofs.one_future.loss.Goals as goal

@@ -1,6 +1,6 @@
 use Rattle.std.proofs.Common.{◌≢◌, ◌∙◌, sym, subst}
 use Rattle.std.specs.List.{AllPairs}
-use Rattle.core_case.specs.View.{no_instrument, no_pool}
+use Rattle.core_book.specs.View.{no_instrument, no_pool}
 use Rattle.core_cert.proofs.NamesApart.{names-apart}
 use Rattle.core_cert.proofs.names.CaseNames.make.Goals as goal
 

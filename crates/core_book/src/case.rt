@@ -1,13 +1,13 @@
 // A case and its accessors.
 ghost use Rattle.std.specs.Prelude.{◌≡◌, ◌<◌, length};
-ghost use Rattle.std.specs.Prelude.{◌==◌, not, map, IfOk};
+ghost use Rattle.std.specs.Prelude.{◌==◌, not, map, max, fold, IfOk};
 ghost use Rattle.std.specs.List.{list_any};
 ghost use Rattle.jiff.specs.Words.{epoch_day};
-ghost use Rattle.core_case.specs.Inside.{AreOpenDays};
+ghost use Rattle.core_book.specs.Inside.{AreOpenDays};
 ghost use Rattle.core_sums.specs.Places.{at};
 
 use crate::book::Book;
-use crate::parts::{Instr, Line, Member, Pool};
+use crate::parts::{Instr, Line, Member, Pool, Tier};
 use core_days::{house_days, open_flags, pay_day};
 use core_rows::Name;
 use jiff::civil::Date;
@@ -22,11 +22,13 @@ pub struct Case {
     pub(crate) days: Vec<Date>,
     /// Whether a market is open, by market and house day.
     pub(crate) open_days: Vec<Vec<bool>>,
+    /// The greatest number of tiers of an instrument.
+    pub(crate) tiers: u8,
 }
 
 impl Model for Case {
-    ghost use Rattle.core_case.specs.View.{CaseView};
-    ghost use Rattle.core_case.specs.Inside.{book_view, HasDays};
+    ghost use Rattle.core_book.specs.View.{CaseView};
+    ghost use Rattle.core_book.specs.Inside.{book_view, HasDays};
 
     ghost Value = { CaseView };
 
@@ -41,6 +43,13 @@ fn number_at(list: &Vec<i64>, i: usize) -> i64
     ensures { result ≡ at list.now.items i }
 {
     list[i]
+}
+
+/// The greatest length of some lists, and 1 where there is none.
+fn deepest(depth: &[Vec<Tier>]) -> usize
+    ensures { result ≡ fold (λ n tiers. max n (length tiers.items)) 1 depth.now }
+{
+    depth.iter().fold(1, |most, tiers| most.max(tiers.len()))
 }
 
 /// Whether one of some lists has a date.
@@ -70,24 +79,26 @@ fn open_days(
 impl Case {
     ghost use Rattle.std.specs.Prelude.{◌≡◌, ◌<◌, ◌≤◌, ℕ, suc, length};
     ghost use Rattle.core_days.specs.Flags.{flag_at};
-    ghost use Rattle.core_case.specs.Kept.{IsCase};
+    ghost use Rattle.core_book.specs.Kept.{IsCase};
     ghost use Rattle.core_sums.specs.Places.{row_at};
-    ghost use Rattle.core_case.specs.View.{instrument, line, pool, member, limit, price, cash, date, is_open, pays, is_allowed, instrument_of, has_holidays, has_cash};
+    ghost use Rattle.core_book.specs.View.{instrument, line, pool, member, tiers, tiers_of, cost, limit, price, cash, date, is_open, pays, counts, is_traded, is_allowed, instrument_of, has_holidays, has_cash};
     ghost use Rattle.std.specs.Prelude.{IfOk};
     ghost use Rattle.jiff.specs.Words.{epoch_day};
-    ghost use Rattle.core_case.specs.Inside.{book_view};
+    ghost use Rattle.core_book.specs.Inside.{book_view};
 
     /// The case of a book: the dates of its house days, and the open days of each market.
-    pub(crate) fn of_book(alloc: Global, book: Book) -> Result<Case, AllocError>
+    pub fn of_book(alloc: Global, book: Book) -> Result<Case, AllocError>
         requires { IsCase (book_view book) }
         ensures { IfOk result (λ c. c ≡ book_view book) }
     {
         let days = house_days(alloc, book.start, &book.holidays[0], book.last)?;
         let open_days = open_days(alloc, &days, &book.holidays)?;
+        let tiers = deepest(&book.depth) as u8;
         Ok(Case {
             book,
             days,
             open_days,
+            tiers,
         })
     }
 
@@ -144,14 +155,55 @@ impl Case {
         self.book.instruments[i]
     }
 
-    /// The limit of an instrument on a closing day, 0 to 10^9.
-    pub fn limit(&self, i: usize, u: u8) -> i64
+    /// The greatest number of tiers of an instrument, 1 to 4, and 1 where there is no instrument.
+    pub fn tiers(&self) -> u8
+        ensures { result ≡ tiers self.now }
+    {
+        self.tiers
+    }
+
+    /// The number of tiers of an instrument, 1 to 4.
+    pub fn tiers_of(&self, i: usize) -> u8
+        requires { i < length self.now.instruments }
+        ensures { result ≡ tiers_of self.now i }
+    {
+        self.book.depth[i].len() as u8
+    }
+
+    /// What a unit of an instrument costs that is closed in tier `j`, from 1: 0 to 10^12, 0 in tier 1 and in a tier that
+    /// the instrument does not have.
+    pub fn cost(&self, i: usize, j: u8) -> i64
+        requires instrument { i < length self.now.instruments }
+        requires tier { 1 ≤ j }
+        ensures { result ≡ cost self.now i j }
+    {
+        match self.book.depth[i].get(j as usize - 1) {
+            Some(tier) => tier.cost,
+            None => 0,
+        }
+    }
+
+    /// The limit of an instrument on closing day `u` in tier `j`, both from 1: 0 to 10^9, 0 in a tier that the instrument
+    /// does not have.
+    pub fn limit(&self, i: usize, u: u8, j: u8) -> i64
         requires instrument { i < length self.now.instruments }
         requires from { 1 ≤ u }
         requires to { u ≤ self.now.horizon }
-        ensures { result ≡ limit self.now i u }
+        requires tier { 1 ≤ j }
+        ensures { result ≡ limit self.now i u j }
     {
-        number_at(&self.book.limits[i], u as usize - 1)
+        match self.book.depth[i].get(j as usize - 1) {
+            Some(tier) => number_at(&tier.limits, u as usize - 1),
+            None => 0,
+        }
+    }
+
+    /// Whether an instrument's closings of a day count towards limits and pools: false exactly on its expiry.
+    pub fn counts(&self, i: usize, u: u8) -> bool
+        requires { i < length self.now.instruments }
+        ensures { result ≡ counts self.now i u }
+    {
+        u != self.book.instruments[i].expiry
     }
 
     /// On which house days an instrument's market is open.
@@ -213,15 +265,29 @@ impl Case {
         self.book.lines[l].instrument
     }
 
-    /// Whether a line may be closed on a day: it is a closing day that the instrument's delay has reached, and its market
-    /// is open then and pays for it.
-    pub fn allowed(&self, l: usize, u: u8) -> bool
+    /// Whether an instrument is traded on a day: from its delay on, and before its expiry where it has one.
+    fn is_traded(&self, i: usize, u: u8) -> bool
+        requires { i < length self.now.instruments }
+        ensures { result ≡ is_traded (instrument self.now i) u }
+    {
+        let Instr { delay, expiry, .. } = self.instrument(i);
+        delay <= u && (expiry == 0 || u < expiry)
+    }
+
+    /// Whether a line may be closed on day `u` in tier `j`: it is a closing day on which the instrument's market is open
+    /// and pays, the instrument has the tier, and it is traded on the day or the day is its expiry and the tier is 1.
+    pub fn allowed(&self, l: usize, u: u8, j: u8) -> bool
         requires line { l < length self.now.lines }
         requires day { u ≤ self.now.last }
-        ensures { result ≡ is_allowed self.now l u }
+        ensures { result ≡ is_allowed self.now l u j }
     {
         let i = self.instrument_of(l);
-        1 <= u && self.instrument(i).delay <= u && u <= self.horizon() && self.pays(i, u).is_some()
+        1 <= u
+            && u <= self.horizon()
+            && self.pays(i, u).is_some()
+            && 1 <= j
+            && j <= self.tiers_of(i)
+            && if self.counts(i, u) { self.is_traded(i, u) } else { j == 1 }
     }
 
     /// How many pools there are.

@@ -1,5 +1,5 @@
 -- The rows of the kept lists: how long they are, and that they are those of the view.
-use Rattle.std.proofs.Common.{◌≡◌, refl, sym, ◌∙◌, ◌⊎◌, inl, inr, ◌-◌, ◌∷◌, ◌++◌, ◌==◌, not, length-append, true, false, None, if◌then◌else◌, ap, subst, ℕ, suc, ◌<◌, ◌≤◌, Bool, List, [], length, map, get_or, ℤ, arith, Vec, Global}
+use Rattle.std.proofs.Common.{◌≡◌, refl, sym, ◌∙◌, ◌⊎◌, inl, inr, ◌-◌, ◌∷◌, ◌++◌, ◌==◌, not, length-append, true, false, None, if◌then◌else◌, ap, subst, ℕ, suc, ◌<◌, ◌≤◌, Bool, List, [], length, map, fold, max, get_or, ℤ, arith, Vec, Global}
 use Rattle.std.proofs.lemmas.List.{get_or-map, get_or_default, get_or_append_left, get_or-append_right, length-map}
 use Rattle.std.specs.List.{list_any}
 use Rattle.core_sums.specs.Places.{at, row_at}
@@ -7,27 +7,60 @@ use Rattle.core_days.specs.Days.{is_open_on, pay_day}
 use Rattle.core_days.proofs.PayDays.{pay_day-cong}
 use Rattle.jiff.specs.Words.{epoch_day}
 use Rattle.jiff.specs.Types.{Date}
-use Rattle.core_case.specs.Kept.{IsCase}
-use Rattle.core_case.specs.declared.book.Book.{Book}
+use Rattle.core_book.specs.Kept.{IsCase}
+use Rattle.core_book.proofs.Depth.{depth-kept}
+use Rattle.core_book.specs.declared.book.Book.{Book}
 use Rattle.core_days.specs.Flags.{flag_at, AreOpenFlags}
-use Rattle.core_case.specs.View.{CaseView, instrument, is_open, pays}
-use Rattle.core_case.specs.Inside.{book_view, AreOpenDays, HasDays}
-use Rattle.core_case.specs.declared.case.Case.TheInside.{Inside}
+use Rattle.core_book.specs.View.{CaseView, no_tier, instrument, tiers, tiers_of, is_open, pays}
+use Rattle.core_book.specs.Inside.{book_view, tier_view, AreOpenDays, HasDays}
+use Rattle.core_book.specs.declared.parts.Tier.{Tier}
+use Rattle.core_book.specs.declared.case.Case.TheInside.{Inside}
 
 -- a row of the view is that of the kept list
 row-is : {A : Type 0} (vs : List (Vec A Global)) (i : ℕ) (v : Vec A Global) → i < length vs → v ≡ get_or vs i v → row_at (map (λ v. v.items) vs) i ≡ v.items
 row-is vs i v within e = get_or-map (λ v. v.items) vs i v [] within ∙ ap (λ v. v.items) (sym e)
 
--- the limits of an instrument
-pub limits-of : (a : Inside) (c : CaseView) (i : ℕ) (v : Vec ℤ Global) → book_view a.book ≡ c → HasDays a → i < length c.instruments
-    → v ≡ get_or a.book.limits.items i v → (length v.items ≡ c.horizon) × (row_at c.limits i ≡ v.items)
-limits-of a c i v view kept below e =
+-- the case's invariant, of its view
+pub view-kept : (a : Inside) (c : CaseView) → book_view a.book ≡ c → HasDays a → IsCase c
+view-kept a c view kept = subst (λ (x : CaseView). IsCase x) view kept.kept
+
+-- the tiers of an instrument
+pub tiers-row : (a : Inside) (c : CaseView) (i : ℕ) (v : Vec Tier Global) → book_view a.book ≡ c → HasDays a
+    → i < length c.instruments → v ≡ get_or a.book.depth.items i v → row_at c.depth i ≡ map tier_view v.items
+tiers-row a c i v view kept below e =
     let here : i < length (book_view a.book).instruments = subst (λ (x : CaseView). i < length x.instruments) (sym view) below in
-    let within : i < length a.book.limits.items = omega (arith, here, kept.kept.limits.0, length-map a.book.limits.items (λ v. v.items)) in
-    let row : row_at (book_view a.book).limits i ≡ v.items = row-is a.book.limits.items i v within e in
-    let listed : i < length (book_view a.book).limits = omega (arith, here, kept.kept.limits.0) in
-    subst (λ (x : CaseView). (length v.items ≡ x.horizon) × (row_at x.limits i ≡ v.items)) view
-    (ap length (sym row) ∙ (kept.kept.limits.1 i [] listed).0, row)
+    let within : i < length a.book.depth.items = omega (arith, here, kept.kept.depth.0, length-map a.book.depth.items (λ v. map tier_view v.items)) in
+    let row : row_at (book_view a.book).depth i ≡ map tier_view v.items =
+    get_or-map (λ v. map tier_view v.items) a.book.depth.items i v [] within ∙ ap (λ v. map tier_view v.items) (sym e) in
+    subst (λ (x : CaseView). row_at x.depth i ≡ map tier_view v.items) view row
+
+-- how many there are
+pub tiers-count : (a : Inside) (c : CaseView) (i : ℕ) (v : Vec Tier Global) → book_view a.book ≡ c → HasDays a
+    → i < length c.instruments → v ≡ get_or a.book.depth.items i v → length v.items ≡ tiers_of c i
+tiers-count a c i v view kept below e =
+    sym (ap length (tiers-row a c i v view kept below e) ∙ length-map v.items tier_view)
+
+-- the greatest count is that of the view
+deepest-in : (n : ℕ) (vs : List (Vec Tier Global))
+    → fold (λ n tiers. max n (length tiers.items)) n vs ≡ fold (λ n xs. max n (length xs)) n (map (λ v. map tier_view v.items) vs)
+deepest-in n [] = refl
+deepest-in n (v ∷ vs) = rw (length-map v.items tier_view, fold) (deepest-in (max n (length v.items)) vs)
+
+pub deepest-is : (b : Book) (vs : List (Vec Tier Global)) → vs ≡ b.depth.items
+    → fold (λ n tiers. max n (length tiers.items)) 1 vs ≡ tiers (book_view b)
+deepest-is b vs e = deepest-in 1 vs ∙ ap (λ xs. tiers record (book_view b) { depth = map (λ v. map tier_view v.items) xs }) e
+
+-- one of them, and how many limits it has
+pub tier-row : (a : Inside) (c : CaseView) (i n : ℕ) (v : Vec Tier Global) (xs : List Tier) (x : Tier) → book_view a.book ≡ c → HasDays a
+    → i < length c.instruments → v ≡ get_or a.book.depth.items i v → xs ≡ v.items → n < length xs → x ≡ get_or xs n x
+    → (get_or (row_at c.depth i) n no_tier ≡ tier_view x) × (length x.limits.items ≡ c.horizon)
+tier-row a c i n v xs x view kept below e items within found =
+    let row : row_at c.depth i ≡ map tier_view xs = tiers-row a c i v view kept below e ∙ ap (map tier_view) (sym items) in
+    let stands : get_or (row_at c.depth i) n no_tier ≡ tier_view x =
+    ap (λ xs. get_or xs n no_tier) row ∙ get_or-map tier_view xs n x no_tier within ∙ ap tier_view (sym found) in
+    let listed : n < length (row_at c.depth i) = omega (arith, within, ap length row, length-map xs tier_view) in
+    let sound = (depth-kept c i (view-kept a c view kept) below).each n no_tier listed in
+    (stands, sym (ap (λ t. length t.limits) stands) ∙ sound.limits.0)
 
 -- the prices of a scenario, and of an instrument in it
 pub paths-of : (a : Inside) (c : CaseView) (k : ℕ) (v : Vec (Vec ℤ Global) Global) → book_view a.book ≡ c → HasDays a → k < length c.scenarios

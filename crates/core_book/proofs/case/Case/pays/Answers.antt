@@ -2,8 +2,8 @@ use Rattle.std.proofs.Common.{arith, ◌≡◌, ◌<◌, ◌-◌, length, true, 
 use Rattle.std.proofs.lemmas.List.{get_or_default}
 use Rattle.core_days.specs.Days.{pay_day}
 use Rattle.core_days.specs.Flags.{flag_at}
-use Rattle.core_case.proofs.Lookups.{pays-of}
-use Rattle.core_case.proofs.case.Case.pays.Goals as goal
+use Rattle.core_book.proofs.Lookups.{pays-of}
+use Rattle.core_book.proofs.case.Case.pays.Goals as goal
 
 pub returns-then-index : goal.returns-then-index
 returns-then-index c =

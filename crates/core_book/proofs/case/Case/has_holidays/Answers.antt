@@ -1,8 +1,8 @@
 use Rattle.std.proofs.Common.{sym, ◌∙◌, ap, not, length, ◌==◌}
 use Rattle.std.specs.List.{list_any}
-use Rattle.core_case.specs.View.{has_holidays}
-use Rattle.core_case.proofs.Lookups.{any-dates}
-use Rattle.core_case.proofs.case.Case.has_holidays.Goals as goal
+use Rattle.core_book.specs.View.{has_holidays}
+use Rattle.core_book.proofs.Lookups.{any-dates}
+use Rattle.core_book.proofs.case.Case.has_holidays.Goals as goal
 
 pub returns : goal.returns
 returns c =

@@ -1,7 +1,7 @@
 use Rattle.std.proofs.Common.{map, take}
 use Rattle.jiff.specs.Words.{epoch_day}
-use Rattle.core_case.specs.Inside.{AreOpenDays}
-use Rattle.core_case.proofs.case.open_days.Given as goal
+use Rattle.core_book.specs.Inside.{AreOpenDays}
+use Rattle.core_book.proofs.case.open_days.Given as goal
 
 -- the markets so far
 abbrev pub invariant-loop-market : goal.invariant-loop-market

@@ -2,9 +2,9 @@ use Rattle.std.proofs.Common.{◌≡◌, map, sym, ◌∙◌, ap, subst, take, �
 use Rattle.std.proofs.lemmas.List.{take_more, map-append}
 use Rattle.jiff.specs.Words.{epoch_day}
 use Rattle.core_days.specs.Flags.{AreOpenFlags}
-use Rattle.core_case.specs.Inside.{AreOpenDays}
-use Rattle.core_case.proofs.Lookups.{one-more-market}
-use Rattle.core_case.proofs.case.open_days.Goals as goal
+use Rattle.core_book.specs.Inside.{AreOpenDays}
+use Rattle.core_book.proofs.Lookups.{one-more-market}
+use Rattle.core_book.proofs.case.open_days.Goals as goal
 
 pub loop-market-preserved : goal.loop-market-preserved
 loop-market-preserved c =

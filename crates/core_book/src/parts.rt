@@ -28,6 +28,17 @@ pub struct Instr {
     pub delay: u8,
     /// Open days from a flow to its payment: 0 to 10.
     pub lag: u8,
+    /// The closing day on which what is still open is settled, 0 where there is none. A security has none.
+    pub expiry: u8,
+}
+
+/// A tier of an instrument: what one closing day takes at a cost per unit.
+#[derive(Drop)]
+pub struct Tier {
+    /// What a unit costs that is closed in the tier: 0 to 10^12, and 0 in tier 1.
+    pub cost: i64,
+    /// What may be closed in the tier, by closing day: 0 to 10^9 each.
+    pub limits: Vec<i64>,
 }
 
 /// A line of the book: a position or a collateral line of an instrument.

@@ -3,10 +3,15 @@ use Rattle.std.specs.Prelude.{◌≡◌, ℕ, ℤ, Bool, List, ◌<◌, length, 
 use Rattle.jiff.specs.Words.{epoch_day}
 use Rattle.core_sums.specs.Places.{row_at}
 use Rattle.core_days.specs.Flags.{AreHouseDays, AreOpenFlags}
-use Rattle.core_case.specs.View.{CaseView}
-use Rattle.core_case.specs.Kept.{IsCase}
-use Rattle.core_case.specs.declared.book.Book.{Book}
-use Rattle.core_case.specs.declared.case.Case.TheInside.{Inside}
+use Rattle.core_book.specs.View.{CaseView, TierView, tiers}
+use Rattle.core_book.specs.Kept.{IsCase}
+use Rattle.core_book.specs.declared.parts.Tier.{Tier}
+use Rattle.core_book.specs.declared.book.Book.{Book}
+use Rattle.core_book.specs.declared.case.Case.TheInside.{Inside}
+
+-- the view of a tier, and of a book
+abbrev pub tier_view : Tier → TierView
+tier_view x = record { cost = x.cost; limits = x.limits.items }
 
 abbrev pub book_view : Book → CaseView
 book_view a = record {
@@ -16,7 +21,7 @@ book_view a = record {
   holidays = map (λ v. map epoch_day v.items) a.holidays.items;
   instruments = a.instruments.items;
   markets = a.markets.items;
-  limits = map (λ v. v.items) a.limits.items;
+  depth = map (λ v. map tier_view v.items) a.depth.items;
   pools = a.pools.items;
   members = a.members.items;
   scenarios = a.scenarios.items;
@@ -30,8 +35,11 @@ pub record AreOpenDays (holidays : List (List ℤ)) (dates : List ℤ) (flags : 
   pub count : length flags ≡ length holidays
   pub each : (m : ℕ) → m < length holidays → AreOpenFlags (row_at holidays m) dates (row_at flags m)
 
--- A case keeps the dates of its house days and the open days of its markets beside the book.
+-- A case keeps the dates of its house days, the open days of its markets and its number of tiers beside the book.
 pub record HasDays (a : Inside) : Type 0 where
   pub kept : IsCase (book_view a.book)
-  pub days : AreHouseDays (book_view a.book).start (row_at (book_view a.book).holidays 0) a.book.last (map epoch_day a.days.items)
-  pub open_days : AreOpenDays (book_view a.book).holidays (map epoch_day a.days.items) (map (λ v. v.items) a.open_days.items)
+  pub days : let c = book_view a.book in
+      AreHouseDays c.start (row_at c.holidays 0) c.last (map epoch_day a.days.items)
+  pub open_days : AreOpenDays (book_view a.book).holidays (map epoch_day a.days.items)
+      (map (λ v. v.items) a.open_days.items)
+  pub tiers : a.tiers ≡ tiers (book_view a.book)

@@ -1,8 +1,8 @@
 use Rattle.std.proofs.Common.{rules, arith, sym, ◌∙◌, ap, FitsSigned, w64}
 use Rattle.std.proofs.lemmas.Int.{to_z-of_z}
 use Rattle.core_sums.specs.Places.{at}
-use Rattle.core_case.proofs.Lookups.{paths-of, path-of}
-use Rattle.core_case.proofs.case.Case.price.Goals as goal
+use Rattle.core_book.proofs.Lookups.{paths-of, path-of}
+use Rattle.core_book.proofs.case.Case.price.Goals as goal
 
 pub index-requires-2 : goal.index-requires-2
 index-requires-2 c =
