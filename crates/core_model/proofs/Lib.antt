@@ -1,4 +1,7 @@
 pub mod FewLines
+pub mod Places
 pub mod WorkedCases
 pub mod Sizes
 mod Rows
+mod Kept
+mod Admissible

@@ -1,5 +1,5 @@
 -- How large the prices, the multipliers and what a unit pays of a case are.
-use Rattle.std.proofs.Common.{◌≡◌, ℕ, zero, suc, ◌*◌, ◌^◌, ◌<◌, ◌≤◌, ◌⊎◌, inl, inr, [], length, ℤ, pos, negsuc, ◌-ℤ◌, ◌*ℤ◌, arith, Bool, true, false, unsigned_abs, lit≤, le_refl, FitsSigned, w64, if◌then◌else◌}
+use Rattle.std.proofs.Common.{◌≡◌, ℕ, zero, suc, ◌*◌, ◌^◌, ◌<◌, ◌≤◌, ◌⊎◌, inl, inr, [], length, pos, negsuc, ◌-ℤ◌, ◌*ℤ◌, arith, Bool, true, false, unsigned_abs, lit≤, le_refl, FitsSigned, w64, if◌then◌else◌}
 use Rattle.std.proofs.lemmas.Int.{ints, unsigned_abs-mul, fits_signed_from_abs}
 use Rattle.std.proofs.Math.Nat.{mul-le-mul}
 use Rattle.core_sums.proofs.Kept.{abs-within}
@@ -16,7 +16,7 @@ line-kept c l kept below = kept.lines.0 l no_line below
 pub instrument-known : (c : CaseView) (l : ℕ) → IsCase c → l < line_count c → instrument_of c l < length c.instruments
 instrument-known c l kept below = (line-kept c l kept below).known
 
-pub instrument-kept : (c : CaseView) (l : ℕ) → IsCase c → l < line_count c → IsInstrument (instrument c (instrument_of c l))
+pub instrument-kept : (c : CaseView) (l : ℕ) → IsCase c → l < line_count c → IsInstrument c.horizon (instrument c (instrument_of c l))
 instrument-kept c l kept below = kept.instruments.1 (instrument_of c l) no_instrument (instrument-known c l kept below)
 
 -- a multiplier with a sign

@@ -14,6 +14,9 @@ use Rattle.core_book.specs.declared.parts.Side.TheVariants.{Position, Collateral
 use Rattle.core_model.specs.declared.cert.Weights.{Weights}
 use Rattle.core_model.specs.declared.cert.Cert.{Cert}
 use Rattle.core_model.specs.declared.cert.Cert.TheVariants.{Closes, Cannot}
+use Rattle.core_model.specs.declared.condition.Condition.{Condition}
+use Rattle.core_model.specs.declared.condition.Condition.TheVariants.{Denominators, AmountSigns, AllowedClosings, FullClosings, Limits, Caps, Losses, WorstLoss, WeightSigns, WeightSum, Charges, Bound}
+use Rattle.core_model.specs.Conditions.{number_of}
 use Rattle.core_model.specs.Closing.{Plan, line_count, is_pooled, fixed}
 use Rattle.core_model.specs.Layout.{plan_of, scenario_weight, limit_weight, pool_weight, full_weight}
 use Rattle.core_model.specs.Bounds.{unit}
@@ -45,10 +48,10 @@ pub record Place : Type 0 where
   pub test : Test
 
 -- the places of a condition, numbered from a first number on
-unfoldable pub places_of : ℕ → ℕ → List Test → List Place
+unfoldable pub places_of : Condition → ℕ → List Test → List Place
 places_of condition first [] = []
 places_of condition first (x ∷ xs) =
-    record { condition = condition; place = first; test = x } ∷ places_of condition (suc first) xs
+    record { condition = number_of condition; place = first; test = x } ∷ places_of condition (suc first) xs
 
 -- f of each pair from two lists, by the first and then by the second
 abbrev pub pairs : {A B C : Type 0} → List A → List B → (A → B → C) → List C
@@ -234,30 +237,30 @@ refuses_test c w = of_terms (bound_terms c w) (int_lt (pos 0) (total (bound_term
 -- the places of conditions 2 to 8, which judge a calendar
 abbrev pub calendar_places : CaseView → Plan → ℤ → List Place
 calendar_places c a loss =
-    places_of 2 1 (by_closing c (sign_test a))
-    ++ places_of 3 1 (by_closing c (allowed_test c a))
-    ++ places_of 4 1 (by_line c (full_test c a))
-    ++ places_of 5 1 (by_limit c (limit_test c a))
-    ++ places_of 6 1 (by_pool_and_day c (pool_test c a))
-    ++ places_of 7 1 (by_scenario_and_day c (loss_test c a loss))
-    ++ places_of 8 1 (reached_test c a loss ∷ [])
+    places_of AmountSigns 1 (by_closing c (sign_test a))
+    ++ places_of AllowedClosings 1 (by_closing c (allowed_test c a))
+    ++ places_of FullClosings 1 (by_line c (full_test c a))
+    ++ places_of Limits 1 (by_limit c (limit_test c a))
+    ++ places_of Caps 1 (by_pool_and_day c (pool_test c a))
+    ++ places_of Losses 1 (by_scenario_and_day c (loss_test c a loss))
+    ++ places_of WorstLoss 1 (reached_test c a loss ∷ [])
 
 -- the places of conditions 9 to 12, which judge the weights, given the sum of condition 10 and the last test
 abbrev pub weight_places : CaseView → Weights → ℤ → Test → List Place
 weight_places c w losses last =
-    places_of 9 1 (weight_tests c w)
-    ++ places_of 10 1 (sum_test c w losses ∷ [])
-    ++ places_of 11 1 (by_closing c (charge_test c w))
-    ++ places_of 12 1 (last ∷ [])
+    places_of WeightSigns 1 (weight_tests c w)
+    ++ places_of WeightSum 1 (sum_test c w losses ∷ [])
+    ++ places_of Charges 1 (by_closing c (charge_test c w))
+    ++ places_of Bound 1 (last ∷ [])
 
 -- all places of a certificate, in order; one that refuses has no calendar to judge
 abbrev pub places : CaseView → Cert → List Place
 places c (Closes calendar loss weights) =
-    places_of 1 1 (denominator_test calendar.den ∷ denominator_test weights.den ∷ [])
+    places_of Denominators 1 (denominator_test calendar.den ∷ denominator_test weights.den ∷ [])
     ++ calendar_places c (plan_of c calendar) loss
     ++ weight_places c weights weights.den (meets_test c weights calendar.den loss)
 places c (Cannot weights) =
-    places_of 1 2 (denominator_test weights.den ∷ [])
+    places_of Denominators 2 (denominator_test weights.den ∷ [])
     ++ weight_places c weights (pos 0) (refuses_test c weights)
 
 -- valid: every place holds, whatever the width of its numbers

@@ -1,10 +1,12 @@
 -- Where the numbers of a calendar and of weights stand in their lists. No other definition knows a place.
-use Rattle.std.specs.Prelude.{ℕ, suc, ◌+◌, ◌-◌, ◌*◌, ◌/◌, ◌%◌, ℤ, length}
+use Rattle.std.specs.Prelude.{◌≡◌, ℕ, suc, ◌+◌, ◌-◌, ◌*◌, ◌/◌, ◌%◌, ◌<◌, ◌≤◌, ℤ, length}
 use Rattle.core_sums.specs.Places.{at}
 use Rattle.core_book.specs.View.{CaseView, tiers}
 use Rattle.core_model.specs.declared.cert.Calendar.{Calendar}
 use Rattle.core_model.specs.declared.cert.Weights.{Weights}
-use Rattle.core_model.specs.Closing.{Plan, line_count}
+use Rattle.core_model.specs.declared.layout.ClosingCell.{ClosingCell}
+use Rattle.core_model.specs.declared.layout.DayCell.{DayCell}
+use Rattle.core_model.specs.Closing.{Plan, line_count, IsClosingDay, IsTierNumber}
 
 -- the place of a line or an instrument, a closing day and a tier: by the first, then by day, then by tier
 abbrev pub closing_place : CaseView → ℕ → ℕ → ℕ → ℕ
@@ -68,3 +70,28 @@ scenario_at_place c n = n / suc c.last
 
 abbrev pub house_day_at_place : CaseView → ℕ → ℕ
 house_day_at_place c n = n % suc c.last
+
+-- The line or instrument, the closing day and the tier of a place in a list of so many rows.
+pub record IsClosingCell (c : CaseView) (rows n : ℕ) (cell : ClosingCell) : Type 0 where
+  pub row_is : cell.row ≡ row_at_place c n
+  pub day_is : cell.day ≡ day_at_place c n
+  pub tier_is : cell.tier ≡ tier_at_place c n
+  pub row_within : cell.row < rows
+  pub day_within : IsClosingDay c cell.day
+  pub day_last : cell.day ≤ c.last
+  pub tier_within : IsTierNumber c cell.tier
+
+-- the pool and the closing day of a place
+pub record IsPoolCell (c : CaseView) (rows n : ℕ) (cell : DayCell) : Type 0 where
+  pub row_is : cell.row ≡ pool_at_place c n
+  pub day_is : cell.day ≡ pool_day_at_place c n
+  pub row_within : cell.row < rows
+  pub day_within : IsClosingDay c cell.day
+  pub day_last : cell.day ≤ c.last
+
+-- the scenario and the house day of a place
+pub record IsScenarioCell (c : CaseView) (rows n : ℕ) (cell : DayCell) : Type 0 where
+  pub row_is : cell.row ≡ scenario_at_place c n
+  pub day_is : cell.day ≡ house_day_at_place c n
+  pub row_within : cell.row < rows
+  pub day_to : cell.day ≤ c.last

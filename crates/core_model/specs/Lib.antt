@@ -1,5 +1,7 @@
 pub mod Closing
+pub mod Layout
 pub mod Bounds
 pub mod Shows
 pub mod Fits
+pub mod Conditions
 pub mod Check
