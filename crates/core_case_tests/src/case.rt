@@ -96,7 +96,7 @@ fn check_instrument(rt: &impl Abort, case: &Case, stated: &Stated) {
         (stated.mult, stated.delay)
     );
     assert_eq!(rt;
-        (instrument.lag, case.limit(0, case.horizon())),
+        (instrument.lag, case.limit(0, case.horizon(), 1)),
         (stated.lag, stated.limit)
     );
 }
@@ -207,7 +207,7 @@ fn allowed_days(case: &Case, l: usize) -> [bool; 8] {
     if l < case.lines() {
         for u in 0..8u8 {
             if u <= case.last() {
-                days[u as usize] = case.allowed(l, u);
+                days[u as usize] = case.allowed(l, u, 1);
             }
         }
     }
@@ -287,7 +287,7 @@ fn check_prices(rt: &impl Abort, case: &Case) {
         (1000, 0, -8000)
     );
     assert!(rt; case.horizon() == 5);
-    assert_eq!(rt; (case.limit(1, 1), case.limit(4, 5)), (20, 30));
+    assert_eq!(rt; (case.limit(1, 1, 1), case.limit(4, 5, 1)), (20, 30));
 }
 
 #[test]
@@ -306,5 +306,38 @@ fn reads_a_book_of_many_records(rt: HostRuntime) -> Result<(), Fail> {
         }
         Err(fault) => assert!(rt; false, "{fault:?}"),
     }
+    Ok(())
+}
+
+/// Two futures: one with two tiers that expires on day 2, and one with a single tier that does not expire.
+const DEEP: &str = "core,3\nhouse,2024-01-01,3,4\nmarket,MKT\ninstr,IND,future,MKT,1,1,1,2\n\
+    instr,TWO,future,MKT,1,3,1,0\nlimit,IND,6,7,8\ntier,IND,3,10,11,12\nlimit,TWO,1,2,3\nscenario,DOWN\n\
+    path,DOWN,IND,100,90,85,80,75\npath,DOWN,TWO,1,1,1,1,1\nposition,IND,10\nposition,TWO,2\nend\n";
+
+/// Where a line may be closed, by day from 1 to 3 and tier from 1 to 3.
+fn allowed_tiers(case: &Case, l: usize) -> [[bool; 3]; 3] {
+    let mut found = [[false; 3]; 3];
+    if l < case.lines() && case.last() >= 3 {
+        for u in 1..4u8 {
+            for j in 1..4u8 {
+                found[u as usize - 1][j as usize - 1] = case.allowed(l, u, j);
+            }
+        }
+    }
+    found
+}
+
+#[test]
+fn tiers_and_expiries_stand_where_the_records_put_them(rt: HostRuntime) -> Result<(), Fail> {
+    let (no, yes) = (false, true);
+    let case = read_case(rt.alloc(), DEEP.as_bytes())?;
+    assert!(rt; case.instruments() == 2 && case.horizon() == 3);
+    assert_eq!(rt; (case.tiers(), case.tiers_of(0), case.tiers_of(1)), (2, 2, 1));
+    assert_eq!(rt; (case.instrument(0).expiry, case.instrument(1).expiry), (2, 0));
+    assert_eq!(rt; (case.cost(0, 1), case.cost(0, 2), case.cost(1, 2)), (0, 3, 0));
+    assert_eq!(rt; (case.limit(0, 2, 1), case.limit(0, 3, 2), case.limit(1, 3, 2)), (7, 12, 0));
+    assert_eq!(rt; (case.counts(0, 1), case.counts(0, 2), case.counts(1, 2)), (yes, no, yes));
+    assert_eq!(rt; allowed_tiers(&case, 0), [[yes, yes, no], [yes, no, no], [no, no, no]]);
+    assert_eq!(rt; allowed_tiers(&case, 1), [[no, no, no], [no, no, no], [yes, no, no]]);
     Ok(())
 }

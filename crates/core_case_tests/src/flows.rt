@@ -16,17 +16,22 @@ const SHORT: &str =
     "core,1\nhouse,2024-01-01,2,3\nmarket,MKT\ninstr,BND,security,MKT,3,1,1\nlimit,BND,10,10\n\
     scenario,UP\npath,UP,BND,100,110,120,130\nposition,BND,-5\ncash,0,7\ncash,2,-4\nend\n";
 
-/// What one unit of the first line pays in the first scenario, where its closing is allowed.
-fn first_unit(case: &Case, flows: &Flows, closed: u8, day: u8) -> Option<i128>
+/// A future of two tiers that expires on day 2, of which the second costs 3 a unit.
+const DEEP: &str = "core,3\nhouse,2024-01-01,2,3\nmarket,MKT\ninstr,IND,future,MKT,2,1,1,2\n\
+    limit,IND,6,6\ntier,IND,3,10,10\nscenario,DOWN\npath,DOWN,IND,100,90,85,80\n\
+    position,IND,-10\nend\n";
+
+/// What one unit of the first line pays in the first scenario, where its closing in a tier is allowed.
+fn first_unit(case: &Case, flows: &Flows, closed: u8, tier: u8, day: u8) -> Option<i128>
     requires { flows.now ≡ case.now }
 {
     if case.lines() > 0
         && case.scenarios() > 0
         && closed <= case.last()
         && day <= case.last()
-        && case.allowed(0, closed)
+        && case.allowed(0, closed, tier)
     {
-        Some(flows.unit(0, 0, closed, day))
+        Some(flows.unit(0, 0, closed, tier, day))
     } else {
         None
     }
@@ -55,7 +60,7 @@ fn a_future_is_marked_up_to_the_last_price_that_is_paid(rt: HostRuntime) -> Resu
         (2, 2, -10),
         (2, 3, 5),
     ] {
-        let unit = first_unit(&case, &flows, closed, day);
+        let unit = first_unit(&case, &flows, closed, 1, day);
         assert_eq!(rt; unit, Some(paid), "closed on {closed}, by {day}");
     }
     Ok(())
@@ -66,10 +71,10 @@ fn a_holiday_delays_what_is_paid(rt: HostRuntime) -> Result<(), Fail> {
     let case = read_case(rt.alloc(), INTERRUPTED.as_bytes())?;
     let flows = Flows::make(rt.alloc(), &case)?;
     for (closed, day, paid) in [(1, 2, 0), (1, 3, 20), (1, 4, 20), (3, 3, 20), (3, 4, 60)] {
-        let unit = first_unit(&case, &flows, closed, day);
+        let unit = first_unit(&case, &flows, closed, 1, day);
         assert_eq!(rt; unit, Some(paid), "closed on {closed}, by {day}");
     }
-    assert_eq!(rt; first_unit(&case, &flows, 2, 4), None);
+    assert_eq!(rt; first_unit(&case, &flows, 2, 1, 4), None);
     Ok(())
 }
 
@@ -78,8 +83,28 @@ fn a_security_sells_at_the_price_of_its_closing(rt: HostRuntime) -> Result<(), F
     let case = read_case(rt.alloc(), SHORT.as_bytes())?;
     let flows = Flows::make(rt.alloc(), &case)?;
     for (closed, day, paid) in [(1, 1, 0), (1, 2, -330), (2, 2, 0), (2, 3, -360)] {
-        let unit = first_unit(&case, &flows, closed, day);
+        let unit = first_unit(&case, &flows, closed, 1, day);
         assert_eq!(rt; unit, Some(paid), "closed on {closed}, by {day}");
+    }
+    Ok(())
+}
+
+#[test]
+fn a_tier_costs_once_its_closing_is_paid(rt: HostRuntime) -> Result<(), Fail> {
+    let case = read_case(rt.alloc(), DEEP.as_bytes())?;
+    let flows = Flows::make(rt.alloc(), &case)?;
+    for (closed, tier, day, paid) in [
+        (1, 1, 1, Some(0)),
+        (1, 1, 2, Some(20)),
+        (1, 2, 1, Some(0)),
+        (1, 2, 2, Some(17)),
+        (1, 2, 3, Some(17)),
+        (1, 3, 2, None),
+        (2, 1, 3, Some(30)),
+        (2, 2, 3, None),
+    ] {
+        let unit = first_unit(&case, &flows, closed, tier, day);
+        assert_eq!(rt; unit, paid, "closed on {closed} in {tier}, by {day}");
     }
     Ok(())
 }

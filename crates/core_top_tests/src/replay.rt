@@ -30,8 +30,8 @@ fn calendar_of(alloc: Global, case: &Case, den: i128, amounts: &[i128]) -> Resul
     ensures fits { IfOk result (CalendarFits case.now) }
     ensures den { IfOk result (λ calendar. calendar.den ≡ den) }
 {
-    let horizon = usize::from(case.horizon());
-    let count = case.lines().checked_mul(horizon).ok_or("too many lines")?;
+    let days = usize::from(case.horizon()) * usize::from(case.tiers());
+    let count = case.lines().checked_mul(days).ok_or("too many lines")?;
     if den == i128::MIN || amounts.len() != count {
         return Err(Fail::from("another list"));
     }
@@ -108,6 +108,37 @@ fn a_book_loses_most_in_the_crash_on_the_last_day(rt: HostRuntime) -> Result<(),
         loss: 15420,
         scenario: 0,
         day: 7,
+    };
+    assert_eq!(rt; worst(alloc, &case, &calendar)?, expected);
+    Ok(())
+}
+
+/// A long future of two tiers, of which the second costs 3 a unit, and a short security with a tier of 2 a unit.
+const DEEP: &str = "core,3\nhouse,2024-01-01,2,3\nmarket,MKT\ninstr,IND,future,MKT,1,1,1,0\n\
+    instr,BND,security,MKT,1,1,0,0\nlimit,IND,6,6\ntier,IND,3,10,10\nlimit,BND,1,1\ntier,BND,2,5,5\n\
+    scenario,DOWN\npath,DOWN,IND,100,90,85,80\npath,DOWN,BND,50,50,51,52\nposition,IND,10\n\
+    position,BND,-3\nend\n";
+
+/// Of the future six in tier 1 and two in tier 2 on day 1, and two in tier 1 on day 2; of the security, on day 2, one
+/// in tier 1 and two in tier 2.
+const TIERED: [i128; 8] = [6, 2, 2, 0, 0, 0, 1, 2];
+
+#[test]
+fn each_tier_costs_its_own_and_is_paid_with_its_closing(rt: HostRuntime) -> Result<(), Fail> {
+    let alloc = rt.alloc();
+    let case = read_case(alloc, DEEP.as_bytes())?;
+    let calendar = calendar_of(alloc, &case, 1, &TIERED)?;
+    let ledger = replay(alloc, &case, &calendar, 0)?;
+    // Day 2: the mark of day 1 on ten (-100), the cost of two in tier 2 (-6), and the security: -3 times 51, 2 times 2.
+    // Day 3: the mark of day 2 on two (-10).
+    assert_eq!(rt;
+        listed(alloc, &ledger.paid)?.as_slice(),
+        [0, 0, -263, -10].as_slice()
+    );
+    let expected = WorstLoss {
+        loss: 273,
+        scenario: 0,
+        day: 3,
     };
     assert_eq!(rt; worst(alloc, &case, &calendar)?, expected);
     Ok(())

@@ -166,7 +166,7 @@ fn refuses_where_the_day_or_the_limit_forbids(rt: HostRuntime) -> Result<(), Fai
 #[test]
 fn names_the_first_fault_of_a_file_that_is_no_case(rt: HostRuntime) -> Result<(), Fail> {
     let alloc = rt.alloc();
-    let newer = SMALL.replace(alloc, "core,1", "core,2")?;
+    let newer = SMALL.replace(alloc, "core,1", "core,4")?;
     let cut = SMALL.replace(alloc, "end\n", "")?;
     let longer = SMALL.replace(alloc, "end\n", "end\nend\n")?;
     let fewer_prices = SMALL.replace(alloc, "100,90,90", "100,90")?;
@@ -296,7 +296,7 @@ const JUDGED: [(&str, &str, [&str; 2], u8, &str); 13] = [
         "bad,cert,4,4\n",
     ),
     (SMALL, SMALL_CLOSING, ["DOWN", "UP"], 9, "bad,cert,7,10\n"),
-    ("core,2\n", "", ["end", "end"], 3, "bad,case,1,2\n"),
+    ("core,4\n", "", ["end", "end"], 3, "bad,case,1,2\n"),
 ];
 
 #[test]
