@@ -287,7 +287,11 @@ impl Case {
             && self.pays(i, u).is_some()
             && 1 <= j
             && j <= self.tiers_of(i)
-            && if self.counts(i, u) { self.is_traded(i, u) } else { j == 1 }
+            && if self.counts(i, u) {
+                self.is_traded(i, u)
+            } else {
+                j == 1
+            }
     }
 
     /// How many pools there are.

@@ -332,12 +332,37 @@ fn tiers_and_expiries_stand_where_the_records_put_them(rt: HostRuntime) -> Resul
     let (no, yes) = (false, true);
     let case = read_case(rt.alloc(), DEEP.as_bytes())?;
     assert!(rt; case.instruments() == 2 && case.horizon() == 3);
-    assert_eq!(rt; (case.tiers(), case.tiers_of(0), case.tiers_of(1)), (2, 2, 1));
-    assert_eq!(rt; (case.instrument(0).expiry, case.instrument(1).expiry), (2, 0));
-    assert_eq!(rt; (case.cost(0, 1), case.cost(0, 2), case.cost(1, 2)), (0, 3, 0));
-    assert_eq!(rt; (case.limit(0, 2, 1), case.limit(0, 3, 2), case.limit(1, 3, 2)), (7, 12, 0));
-    assert_eq!(rt; (case.counts(0, 1), case.counts(0, 2), case.counts(1, 2)), (yes, no, yes));
-    assert_eq!(rt; allowed_tiers(&case, 0), [[yes, yes, no], [yes, no, no], [no, no, no]]);
-    assert_eq!(rt; allowed_tiers(&case, 1), [[no, no, no], [no, no, no], [yes, no, no]]);
+    assert_eq!(rt;
+        (case.tiers(), case.tiers_of(0), case.tiers_of(1)),
+        (2, 2, 1)
+    );
+    assert_eq!(rt;
+        (case.instrument(0).expiry, case.instrument(1).expiry),
+        (2, 0)
+    );
+    assert_eq!(rt;
+        (case.cost(0, 1), case.cost(0, 2), case.cost(1, 2)),
+        (0, 3, 0)
+    );
+    assert_eq!(rt;
+        (
+            case.limit(0, 2, 1),
+            case.limit(0, 3, 2),
+            case.limit(1, 3, 2)
+        ),
+        (7, 12, 0)
+    );
+    assert_eq!(rt;
+        (case.counts(0, 1), case.counts(0, 2), case.counts(1, 2)),
+        (yes, no, yes)
+    );
+    assert_eq!(rt;
+        allowed_tiers(&case, 0),
+        [[yes, yes, no], [yes, no, no], [no, no, no]]
+    );
+    assert_eq!(rt;
+        allowed_tiers(&case, 1),
+        [[no, no, no], [no, no, no], [yes, no, no]]
+    );
     Ok(())
 }

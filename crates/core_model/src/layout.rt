@@ -88,7 +88,12 @@ fn closing_entry(case: &Case, numbers: &Numbers, rows: usize, cell: ClosingCell)
     let count = numbers.len();
     let row = cell.row * usize::from(case.horizon()) + usize::from(cell.day - 1);
     prove!(row < count);
-    entry(numbers, row, usize::from(case.tiers()), usize::from(cell.tier - 1))
+    entry(
+        numbers,
+        row,
+        usize::from(case.tiers()),
+        usize::from(cell.tier - 1),
+    )
 }
 
 impl Calendar {
@@ -101,7 +106,12 @@ impl Calendar {
         ensures { result ≡ (plan_of case.now self.now).amount line day tier }
     {
         let row = line;
-        closing_entry(case, &self.amounts, case.lines(), ClosingCell { row, day, tier })
+        closing_entry(
+            case,
+            &self.amounts,
+            case.lines(),
+            ClosingCell { row, day, tier },
+        )
     }
 }
 
@@ -115,7 +125,12 @@ impl Weights {
         ensures { result ≡ limit_weight case.now self.now instrument day tier }
     {
         let row = instrument;
-        closing_entry(case, &self.limit, case.instruments(), ClosingCell { row, day, tier })
+        closing_entry(
+            case,
+            &self.limit,
+            case.instruments(),
+            ClosingCell { row, day, tier },
+        )
     }
 
     /// The weight of the cap of a pool, from 0, on a closing day, from 1, as a numerator.
@@ -125,7 +140,12 @@ impl Weights {
         requires day { IsClosingDay case.now day }
         ensures { result ≡ pool_weight case.now self.now pool day }
     {
-        entry(&self.pool, pool, usize::from(case.horizon()), usize::from(day - 1))
+        entry(
+            &self.pool,
+            pool,
+            usize::from(case.horizon()),
+            usize::from(day - 1),
+        )
     }
 
     /// The weight of a scenario and a house day, both from 0, as a numerator.
@@ -135,7 +155,12 @@ impl Weights {
         requires day { day ≤ case.now.last }
         ensures { result ≡ scenario_weight case.now self.now scenario day }
     {
-        entry(&self.scenario, scenario, usize::from(case.last()) + 1, usize::from(day))
+        entry(
+            &self.scenario,
+            scenario,
+            usize::from(case.last()) + 1,
+            usize::from(day),
+        )
     }
 
     /// The weight of the full closing of a line, from 0, as a numerator.
