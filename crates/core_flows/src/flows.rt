@@ -1,5 +1,5 @@
 // The flows of a case.
-ghost use Rattle.std.specs.Prelude.{◌≡◌, ◌*◌, ◌^◌, ◌<◌, ◌≤◌, suc, length, true, unsigned_abs, IfOk};
+ghost use Rattle.std.specs.Prelude.{◌≡◌, ◌+◌, ◌*◌, ◌^◌, ◌<◌, ◌≤◌, suc, length, true, unsigned_abs, IfOk};
 ghost use Rattle.core_book.specs.Kept.{IsCase};
 ghost use Rattle.core_book.specs.View.{is_allowed};
 ghost use Rattle.core_model.specs.Closing.{fixed};
@@ -67,20 +67,28 @@ impl<'a> Flows<'a> {
         })
     }
 
+    /// The case of the flows. It keeps the ranges and references of a well-formed one.
+    pub fn case(&self) -> &'a Case
+        ensures value { result.now ≡ self.now }
+        ensures kept { IsCase self.now }
+    {
+        self.case
+    }
+
     /// The cash that one unit of a line (from 0) pays by the house day `day` in a scenario (from 0), where it is closed
-    /// on the day `closed`, on which its closing is allowed: with the line's sign and multiplier, without fixed cash,
-    /// and at most 2 * 10^18 in absolute value.
-    pub fn unit(&self, line: usize, scenario: usize, closed: u8, day: u8) -> i128
+    /// on the day `closed` in a tier (from 1), in which its closing is allowed: with the line's sign and multiplier, less
+    /// the tier's cost once that is paid, without fixed cash, and at most 2 * 10^18 + 10^12 in absolute value.
+    pub fn unit(&self, line: usize, scenario: usize, closed: u8, tier: u8, day: u8) -> i128
         requires line { line < length self.now.lines }
         requires scenario { scenario < length self.now.scenarios }
-        requires closed { is_allowed self.now line closed ≡ true }
+        requires closed { is_allowed self.now line closed tier ≡ true }
         requires day { day ≤ self.now.last }
-        ensures value { result ≡ unit self.now line scenario closed day }
-        ensures small { unsigned_abs result ≤ 2 * 10 ^ 18 }
+        ensures value { result ≡ unit self.now line scenario closed tier day }
+        ensures small { unsigned_abs result ≤ 2 * 10 ^ 18 + 10 ^ 12 }
     {
         let case = self.case;
         let pay_table = &self.pay_tables[case.line(line).instrument];
-        unit(case, pay_table, line, scenario, closed, day)
+        unit(case, pay_table, line, scenario, closed, tier, day)
     }
 
     /// The sum of the fixed cash of the house days 0 to `day`.

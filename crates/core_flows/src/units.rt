@@ -1,10 +1,11 @@
 // What one unit of a line pays, by the pay days of its instrument.
-ghost use Rattle.std.specs.Prelude.{◌≡◌, ◌*◌, ◌^◌, ◌<◌, ◌≤◌, ◌-ℤ◌, ◌*ℤ◌, length, true, unsigned_abs};
+ghost use Rattle.std.specs.Prelude.{◌≡◌, ◌+◌, ◌*◌, ◌^◌, ◌<◌, ◌≤◌, ◌-ℤ◌, ◌*ℤ◌, length, true, unsigned_abs};
 ghost use Rattle.core_book.specs.Kept.{IsCase};
 ghost use Rattle.core_book.specs.View.{instrument_of, price, is_allowed};
-ghost use Rattle.core_model.specs.Closing.{size};
+ghost use Rattle.core_model.specs.Closing.{kind_of, size};
 ghost use Rattle.core_model.specs.Bounds.{unit};
 ghost use Rattle.core_flows.specs.Tables.{IsPayTable};
+ghost use Rattle.core_flows.specs.Units.{unit_by, unit_cost};
 
 use crate::tables::PayTable;
 use core_book::{Case, Kind};
@@ -70,8 +71,9 @@ fn sale(case: &Case, line: usize, scenario: usize, day: u8) -> i128
     )
 }
 
-/// The cash that one unit of a line, closed on the day `closed`, pays by a house day, by its instrument's pay days.
-pub(crate) fn unit(
+/// What one unit of a line, closed on the day `closed`, pays by a house day before the cost of its closing, by its
+/// instrument's pay days.
+fn before_cost(
     case: &Case,
     pay_table: &PayTable,
     line: usize,
@@ -83,9 +85,9 @@ pub(crate) fn unit(
     requires pay_table { IsPayTable case.now (instrument_of case.now line) pay_table.now }
     requires line { line < length case.now.lines }
     requires scenario { scenario < length case.now.scenarios }
-    requires closed { is_allowed case.now line closed ≡ true }
+    requires closed { closed ≤ case.now.last }
     requires day { day ≤ case.now.last }
-    ensures value { result ≡ unit case.now line scenario closed day }
+    ensures value { result ≡ unit_by (kind_of case.now line) case.now line scenario closed day }
     ensures small { unsigned_abs result ≤ 2 * 10 ^ 18 }
 {
     match case.instrument(case.line(line).instrument).kind {
@@ -98,4 +100,45 @@ pub(crate) fn unit(
             }
         }
     }
+}
+
+/// What the closing of one unit of a line on the day `closed` in a tier, from 1, costs, once it is paid: at most 10^12.
+fn unit_cost(case: &Case, pay_table: &PayTable, line: usize, closed: u8, tier: u8, day: u8) -> i64
+    requires kept { IsCase case.now }
+    requires pay_table { IsPayTable case.now (instrument_of case.now line) pay_table.now }
+    requires line { line < length case.now.lines }
+    requires closed { closed ≤ case.now.last }
+    requires tier { 1 ≤ tier }
+    ensures value { result ≡ unit_cost case.now line closed tier day }
+    ensures small { unsigned_abs result ≤ 10 ^ 12 }
+{
+    if pay_table.is_paid_by(closed, day) {
+        case.cost(case.line(line).instrument, tier)
+    } else {
+        0
+    }
+}
+
+/// The cash that one unit of a line, closed on the day `closed` in a tier, pays by a house day, by its instrument's pay
+/// days.
+pub(crate) fn unit(
+    case: &Case,
+    pay_table: &PayTable,
+    line: usize,
+    scenario: usize,
+    closed: u8,
+    tier: u8,
+    day: u8,
+) -> i128
+    requires kept { IsCase case.now }
+    requires pay_table { IsPayTable case.now (instrument_of case.now line) pay_table.now }
+    requires line { line < length case.now.lines }
+    requires scenario { scenario < length case.now.scenarios }
+    requires closed { is_allowed case.now line closed tier ≡ true }
+    requires day { day ≤ case.now.last }
+    ensures value { result ≡ unit case.now line scenario closed tier day }
+    ensures small { unsigned_abs result ≤ 2 * 10 ^ 18 + 10 ^ 12 }
+{
+    let paid = before_cost(case, pay_table, line, scenario, closed, day);
+    paid - i128::from(unit_cost(case, pay_table, line, closed, tier, day))
 }
