@@ -76,7 +76,7 @@ pub at-other_row : (i j a b : ℕ) → (a ≡ i → ⊥) → at_place i j a b �
 at-other_row i j a b differ =
     ap (λ t. if t && (suc j == suc b) then pos 1 else pos 0) (ne_eqb (suc i) (suc a) (λ e. differ (omega (arith, e))))
 
-at-other : (i j b : ℕ) → (b ≡ j → ⊥) → at_place i j i b ≡ pos 0
+pub at-other : (i j b : ℕ) → (b ≡ j → ⊥) → at_place i j i b ≡ pos 0
 at-other i j b differ =
     ap (λ t. if t && (suc j == suc b) then pos 1 else pos 0) (eq-eqb (suc i) (suc i) refl)
     ∙ ap (λ t. if t then pos 1 else pos 0) (ne_eqb (suc j) (suc b) (λ e. differ (omega (arith, e))))

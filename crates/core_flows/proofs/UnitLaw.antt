@@ -1,43 +1,55 @@
--- What one unit of a line pays is a difference of two prices, or one price.
-use Rattle.std.proofs.Common.{◌≡◌, refl, sym, ◌∙◌, ap, ℕ, zero, suc, ◌-◌, ◌<◌, ◌≤◌, ◌⊎◌, inl, inr, min, ℤ, pos, ◌-ℤ◌, ◌*ℤ◌, arith, Bool, true, false, ◌&&◌, nat_le, Option, None, is_some, if◌then◌else◌}
+-- What one unit of a line pays is a difference of two prices, or one price, less the cost of its closing.
+use Rattle.std.proofs.Common.{◌≡◌, refl, sym, ◌∙◌, ap, ℕ, zero, suc, ◌-◌, ◌<◌, ◌≤◌, ◌⊎◌, inl, inr, min, ℤ, pos, ◌+ℤ◌, ◌-ℤ◌, ◌*ℤ◌, neg_ℤ, arith, Bool, true, false, ◌&&◌, ◌==◌, nat_le, if◌then◌else◌}
 use Rattle.std.proofs.lemmas.Int.{ints}
-use Rattle.std.proofs.lemmas.Bool.{cases_lt, eq-eqb, ne_eqb, le-leb, leb-true}
+use Rattle.std.proofs.lemmas.Bool.{cases_lt, eq-eqb, ne_eqb, le-leb}
 use Rattle.std.proofs.Math.IntN.{*ℤ-zero}
 use Rattle.core_sums.specs.Sums.{sum_below, sum_days}
 use Rattle.core_sums.proofs.Ring.{*ℤ-pos_one}
-use Rattle.core_sums.proofs.SumLaws.{sum_below-cong, sum_below-none, sum_below-scale, sum_below-cut, sum_below-single}
-use Rattle.core_days.specs.Days.{open_day_before, pay_day}
-use Rattle.core_book.specs.View.{CaseView, instrument, instrument_of, price, is_open, pays, day_before, is_allowed}
+use Rattle.core_sums.proofs.SumLaws.{sum_below-cong, sum_below-none, sum_below-plus, sum_below-scale, sum_below-cut, sum_below-single, sum_below-zero}
+use Rattle.core_days.specs.Days.{open_day_before}
+use Rattle.core_book.specs.View.{CaseView, instrument_of, tiers, cost, price, is_open, pays, day_before}
 use Rattle.core_book.specs.Kept.{IsCase}
 use Rattle.core_book.specs.declared.parts.Kind.{Kind}
 use Rattle.core_book.specs.declared.parts.Kind.TheVariants.{Future, Security}
-use Rattle.core_model.specs.Closing.{size, flow_by, still_open, is_by}
+use Rattle.core_model.specs.Closing.{sum_tiers, closed_on, size, price_of, price_change, kind_of, flow_by, flow, cost_flow, paid_by, still_open, is_by}
 use Rattle.core_model.specs.Bounds.{alone, one_on, unit}
-use Rattle.core_flows.specs.Units.{last_paid, marked_to, unit_of}
+use Rattle.core_flows.specs.Units.{last_paid, marked_to, unit_by, unit_cost, unit_of}
 use Rattle.core_flows.proofs.CashLaw.{unit-is}
+use Rattle.core_flows.proofs.Spread.{at_place, at-same, at-other, at-other_row}
 use Rattle.core_flows.proofs.PayOrder.{paid-open, paid-in_order, open-paid}
 use Rattle.core_flows.proofs.Telescope.{day_before-at, day_before-off, day_before-cong, day_before-cut, marks-telescope}
 
--- one unit is closed on the one day
-on-day : (i : ℕ) → one_on (suc i) 0 (suc i) ≡ pos 1
-on-day i = ap (λ b. if b then pos 1 else pos 0) (eq-eqb (suc i) (suc i) refl)
+-- what is closed of one unit, over its tiers
+closed-one : (b : Bool) (m n : ℕ) → n < m → sum_below m (λ i. if b && (suc i == suc n) then pos 1 else pos 0) ≡ (if b then pos 1 else pos 0)
+closed-one true m n within =
+    sum_below-single m n (λ i. if suc i == suc n then pos 1 else pos 0) within
+    (λ i below differ. ap (λ b. if b then pos 1 else pos 0) (ne_eqb (suc i) (suc n) (λ e. differ (omega (arith, e)))))
+    ∙ ap (λ b. if b then pos 1 else pos 0) (eq-eqb (suc n) (suc n) refl)
+closed-one false m n within = sum_below-zero m
+
+-- it is one on the one day
+on-day : (c : CaseView) (l i n : ℕ) → n < tiers c → closed_on (alone c l) (one_on (suc i) (suc n)) 0 (suc i) ≡ pos 1
+on-day c l i n within = closed-one (suc i == suc i) (tiers c) n within ∙ ap (λ b. if b then pos 1 else pos 0) (eq-eqb (suc i) (suc i) refl)
 
 -- and none on another day
-off-day : (i j : ℕ) → (j ≡ i → ⊥) → one_on (suc i) 0 (suc j) ≡ pos 0
-off-day i j differ = ap (λ b. if b then pos 1 else pos 0) (ne_eqb (suc j) (suc i) (λ e. differ (omega (arith, e))))
+off-day : (c : CaseView) (l i n w : ℕ) → n < tiers c → (w ≡ i → ⊥) → closed_on (alone c l) (one_on (suc i) (suc n)) 0 (suc w) ≡ pos 0
+off-day c l i n w within differ =
+    closed-one (suc w == suc i) (tiers c) n within ∙ ap (λ b. if b then pos 1 else pos 0) (ne_eqb (suc w) (suc i) (λ e. differ (omega (arith, e))))
 
 -- up to the day of its closing the unit is open
-still-whole : (c : CaseView) (l i w : ℕ) → w ≤ i → still_open (alone c l) (pos 1) (one_on (suc i)) 0 (suc w) ≡ pos 1
-still-whole c l i w before =
-    let none : sum_below (min (suc w - 1) c.horizon) (λ j. one_on (suc i) 0 (suc j)) ≡ pos 0 =
-    sum_below-none (min (suc w - 1) c.horizon) (λ j. one_on (suc i) 0 (suc j)) (λ j below. off-day i j (λ e. omega (arith, e, below, before))) in
+still-whole : (c : CaseView) (l i n w : ℕ) → n < tiers c → w ≤ i → still_open (alone c l) (one_on (suc i) (suc n)) 0 (suc w) ≡ pos 1
+still-whole c l i n w tier before =
+    let none : sum_below (min (suc w - 1) c.horizon) (λ j. closed_on (alone c l) (one_on (suc i) (suc n)) 0 (suc j)) ≡ pos 0 =
+    sum_below-none (min (suc w - 1) c.horizon) (λ j. closed_on (alone c l) (one_on (suc i) (suc n)) 0 (suc j))
+    (λ j below. off-day c l i n j tier (λ e. omega (arith, e, below, before))) in
     omega (arith, ints, none, *ℤ-pos_one (pos 1))
 
 -- and after it nothing is
-still-none : (c : CaseView) (l i w : ℕ) → i < w → i < c.horizon → still_open (alone c l) (pos 1) (one_on (suc i)) 0 (suc w) ≡ pos 0
-still-none c l i w after within =
-    let one : sum_below (min (suc w - 1) c.horizon) (λ j. one_on (suc i) 0 (suc j)) ≡ pos 1 =
-    sum_below-single (min (suc w - 1) c.horizon) i (λ j. one_on (suc i) 0 (suc j)) (omega (arith, after, within)) (λ j below differ. off-day i j differ) ∙ on-day i in
+still-none : (c : CaseView) (l i n w : ℕ) → n < tiers c → i < w → i < c.horizon → still_open (alone c l) (one_on (suc i) (suc n)) 0 (suc w) ≡ pos 0
+still-none c l i n w tier after within =
+    let one : sum_below (min (suc w - 1) c.horizon) (λ j. closed_on (alone c l) (one_on (suc i) (suc n)) 0 (suc j)) ≡ pos 1 =
+    sum_below-single (min (suc w - 1) c.horizon) i (λ j. closed_on (alone c l) (one_on (suc i) (suc n)) 0 (suc j)) (omega (arith, after, within))
+    (λ j below differ. off-day c l i n j tier differ) ∙ on-day c l i n tier in
     omega (arith, ints, one, *ℤ-pos_one (pos 1))
 
 -- the mark of a day on which the unit is open
@@ -57,24 +69,23 @@ mark-none false day m y none = refl
 abbrev paid_test : CaseView → ℕ → ℕ → ℕ → Bool
 paid_test c l t v = is_by (pays c (instrument_of c l) v) t
 
--- the flows of one unit of a kind that is closed on day u, as they are paid
-abbrev paid_flow : Kind → CaseView → ℕ → ℕ → ℕ → ℕ → ℕ → ℤ
-paid_flow kind c l k u t v =
-    if paid_test c l t v then (if is_open c (instrument_of c l) v then flow_by kind (alone c l) (pos 1) (one_on u) k 0 v else pos 0) else pos 0
+-- the flows of one unit of a kind that is closed on day u in tier j, before their cost, as they are paid
+abbrev paid_flow : Kind → CaseView → ℕ → ℕ → ℕ → ℕ → ℕ → ℕ → ℤ
+paid_flow kind c l k u j t v =
+    if paid_test c l t v then (if is_open c (instrument_of c l) v then flow_by kind (alone c l) (one_on u j) k 0 v else pos 0) else pos 0
 
 -- the marks of a unit that is closed on day i + 1, up to that day
-marks-of : (c : CaseView) (l k i t : ℕ) → i < c.horizon → c.horizon ≤ c.last
-    → sum_days c.last (paid_flow Future c l k (suc i) t)
+marks-of : (c : CaseView) (l k i n t : ℕ) → n < tiers c → i < c.horizon → c.horizon ≤ c.last
+    → sum_days c.last (paid_flow Future c l k (suc i) (suc n) t)
     ≡ size c l *ℤ (price c k (instrument_of c l) (open_day_before (paid_test c l t) (suc (suc i))) -ℤ price c k (instrument_of c l) 0)
-marks-of c l k i t within last =
-    sum_below-cut (suc i) c.last (λ w. paid_flow Future c l k (suc i) t (suc w)) (omega (arith, within, last))
-    (λ w from below. mark-none (paid_test c l t (suc w)) (is_open c (instrument_of c l) (suc w))
-    (size c l *ℤ (price c k (instrument_of c l) (suc w) -ℤ price c k (instrument_of c l) (day_before c (instrument_of c l) (suc w))))
-    (still_open (alone c l) (pos 1) (one_on (suc i)) 0 (suc w)) (still-none c l i w from within))
-    ∙ sum_below-cong (suc i) (λ w. paid_flow Future c l k (suc i) t (suc w)) (λ w. size c l *ℤ mark w)
+marks-of c l k i n t tier within last =
+    sum_below-cut (suc i) c.last (λ w. paid_flow Future c l k (suc i) (suc n) t (suc w)) (omega (arith, within, last))
+    (λ w from below. mark-none (paid_test c l t (suc w)) (is_open c (instrument_of c l) (suc w)) (size c l *ℤ price_change c k l (suc w))
+    (still_open (alone c l) (one_on (suc i) (suc n)) 0 (suc w)) (still-none c l i n w tier from within))
+    ∙ sum_below-cong (suc i) (λ w. paid_flow Future c l k (suc i) (suc n) t (suc w)) (λ w. size c l *ℤ mark w)
     (λ w below. mark-open (paid_test c l t (suc w)) (is_open c (instrument_of c l) (suc w)) (size c l) (price c k (instrument_of c l) (suc w))
     (price c k (instrument_of c l) (day_before c (instrument_of c l) (suc w))) (price c k (instrument_of c l) (open_day_before (paid_test c l t) (suc w)))
-    (still_open (alone c l) (pos 1) (one_on (suc i)) 0 (suc w)) (still-whole c l i w (omega (arith, below)))
+    (still_open (alone c l) (one_on (suc i) (suc n)) 0 (suc w)) (still-whole c l i n w tier (omega (arith, below)))
     (paid-open c (instrument_of c l) (suc w) t) (λ paid. ap (price c k (instrument_of c l)) (same w paid)))
     ∙ sum_below-scale (suc i) (size c l) mark
     ∙ ap (λ z. size c l *ℤ z) (marks-telescope (paid_test c l t) (price c k (instrument_of c l)) (suc i))
@@ -122,50 +133,101 @@ sale-off true true false s y none = refl
 sale-off true false closing s y none = refl
 sale-off false day closing s y none = refl
 
--- the flows of a unit of either kind that is closed on day i + 1
-flows-of : (kind : Kind) (c : CaseView) (l k i t : ℕ) → i < c.horizon → c.horizon ≤ c.last → is_open c (instrument_of c l) (suc i) ≡ true
-    → sum_days c.last (paid_flow kind c l k (suc i) t) ≡ unit_of kind c l k (suc i) t
-flows-of Future c l k i t within last day =
-    marks-of c l k i t within last
-    ∙ ap (λ v. size c l *ℤ (price c k (instrument_of c l) v -ℤ price c k (instrument_of c l) 0)) (marked-to c l (suc i) t (omega (arith, within, last)) day)
-flows-of Security c l k i t within last day =
-    sum_below-single c.last i (λ w. paid_flow Security c l k (suc i) t (suc w)) (omega (arith, within, last))
-    (λ w below differ. sale-off (paid_test c l t (suc w)) (is_open c (instrument_of c l) (suc w)) (nat_le (suc w) c.horizon)
-    (size c l *ℤ price c k (instrument_of c l) (suc w)) (one_on (suc i) 0 (suc w)) (off-day i w differ))
-    ∙ sale-on (paid_test c l t (suc i)) (is_open c (instrument_of c l) (suc i)) (nat_le (suc i) c.horizon)
-    (size c l *ℤ price c k (instrument_of c l) (suc i)) (one_on (suc i) 0 (suc i)) (on-day i) day (le-leb (suc i) c.horizon (omega (arith, within)))
-
--- both parts of a test hold
-both : (a b : Bool) → (a && b) ≡ true → (a ≡ true) × (b ≡ true)
-both true b e = (refl, e)
-both false b e = absurd (cc)
-
--- A closing that is allowed is on an open day from 1 to the horizon.
-pub record IsOpenClosing (c : CaseView) (l u : ℕ) : Type 0 where
+-- A closing on an open day from 1 to the horizon, in one of the case's tiers.
+pub record IsOpenClosing (c : CaseView) (l u j : ℕ) : Type 0 where
   pub from : 1 ≤ u
   pub to : u ≤ c.horizon
+  pub tier : 1 ≤ j
+  pub known : j ≤ tiers c
   pub day : is_open c (instrument_of c l) u ≡ true
 
--- an allowed closing is one
-pub allowed-is : (c : CaseView) (l u : ℕ) → is_allowed c l u ≡ true → IsOpenClosing c l u
-allowed-is c l u allowed =
-    let outer = both (nat_le 1 u && nat_le (instrument c (instrument_of c l)).delay u && nat_le u c.horizon) (is_some (pays c (instrument_of c l) u)) allowed in
-    let inner = both (nat_le 1 u && nat_le (instrument c (instrument_of c l)).delay u) (nat_le u c.horizon) outer.0 in
-    let least = both (nat_le 1 u) (nat_le (instrument c (instrument_of c l)).delay u) inner.0 in
-    record {
-      from = leb-true 1 u least.0;
-      to = leb-true u c.horizon inner.1;
-      day = paid_there (is_open c (instrument_of c l) u) (pay_day (is_open c (instrument_of c l)) c.last (instrument c (instrument_of c l)).lag u) outer.1;
-    }
-  where
-    paid_there : (b : Bool) (o : Option ℕ) → is_some (if b then o else None) ≡ true → b ≡ true
-    paid_there true o some = refl
-    paid_there false o some = absurd (cc)
+-- the flows of a unit of either kind that is closed on day i + 1 in tier n + 1, before their cost
+flows-of : (kind : Kind) (c : CaseView) (l k i n t : ℕ) → n < tiers c → i < c.horizon → c.horizon ≤ c.last
+    → is_open c (instrument_of c l) (suc i) ≡ true → sum_days c.last (paid_flow kind c l k (suc i) (suc n) t) ≡ unit_by kind c l k (suc i) t
+flows-of Future c l k i n t tier within last day =
+    marks-of c l k i n t tier within last
+    ∙ ap (λ v. size c l *ℤ (price_of c k l v -ℤ price_of c k l 0)) (marked-to c l (suc i) t (omega (arith, within, last)) day)
+flows-of Security c l k i n t tier within last day =
+    sum_below-single c.last i (λ w. paid_flow Security c l k (suc i) (suc n) t (suc w)) (omega (arith, within, last))
+    (λ w below differ. sale-off (paid_test c l t (suc w)) (is_open c (instrument_of c l) (suc w)) (nat_le (suc w) c.horizon)
+    (size c l *ℤ price_of c k l (suc w)) (closed_on (alone c l) (one_on (suc i) (suc n)) 0 (suc w)) (off-day c l i n w tier differ))
+    ∙ sale-on (paid_test c l t (suc i)) (is_open c (instrument_of c l) (suc i)) (nat_le (suc i) c.horizon)
+    (size c l *ℤ price_of c k l (suc i)) (closed_on (alone c l) (one_on (suc i) (suc n)) 0 (suc i)) (on-day c l i n tier) day
+    (le-leb (suc i) c.horizon (omega (arith, within)))
 
--- the unit of a line whose closing is allowed
-pub unit-closed : (c : CaseView) (l k u t : ℕ) → IsCase c → IsOpenClosing c l u
-    → unit c l k u t ≡ unit_of (instrument c (instrument_of c l)).kind c l k u t
-unit-closed c l k zero t kept closing = absurd (omega (arith, closing.from))
-unit-closed c l k (suc i) t kept closing =
-    unit-is c l k (suc i) t
-    ∙ flows-of (instrument c (instrument_of c l)).kind c l k i t (omega (arith, closing.to)) kept.last.0 closing.day
+-- the cost of one unit in its tier on its day, and elsewhere
+cost-on : (b : Bool) (x y : ℤ) → b ≡ true → y ≡ pos 1 → (if b then neg_ℤ (x *ℤ y) else pos 0) ≡ neg_ℤ x
+cost-on true x y e one = ap (λ z. neg_ℤ (x *ℤ z)) one ∙ ap neg_ℤ (*ℤ-pos_one x)
+cost-on false x y e one = absurd (cc)
+
+cost-off : (b : Bool) (x y : ℤ) → y ≡ pos 0 → (if b then neg_ℤ (x *ℤ y) else pos 0) ≡ pos 0
+cost-off true x y none = ap (λ z. neg_ℤ (x *ℤ z)) none ∙ ap neg_ℤ (*ℤ-zero x)
+cost-off false x y none = refl
+
+-- its costs on a day, as they are paid
+abbrev paid_cost : CaseView → ℕ → ℕ → ℕ → ℕ → ℕ → ℤ
+paid_cost c l u j t v = if paid_test c l t v then sum_tiers c (cost_flow (alone c l) (one_on u j) 0 v) else pos 0
+
+-- on another day there is none
+none-on : (c : CaseView) (l i n t w : ℕ) → (w ≡ i → ⊥) → paid_cost c l (suc i) (suc n) t (suc w) ≡ pos 0
+none-on c l i n t w differ =
+    ap (λ z. if paid_test c l t (suc w) then z else pos 0)
+    (sum_below-none (tiers c) (λ m. cost_flow (alone c l) (one_on (suc i) (suc n)) 0 (suc w) (suc m))
+    (λ m below. cost-off (is_open c (instrument_of c l) (suc w) && nat_le (suc w) c.horizon) (cost c (instrument_of c l) (suc m)) (at_place w m i n)
+    (at-other_row w m i n (λ e. differ (omega (arith, e))))))
+    ∙ either (paid_test c l t (suc w))
+  where
+    either : (b : Bool) → (if b then pos 0 else pos 0) ≡ pos 0
+    either true = refl
+    either false = refl
+
+-- on its day there is that of its tier
+cost-there : (c : CaseView) (l i n : ℕ) → n < tiers c → i < c.horizon → is_open c (instrument_of c l) (suc i) ≡ true
+    → sum_tiers c (cost_flow (alone c l) (one_on (suc i) (suc n)) 0 (suc i)) ≡ neg_ℤ (cost c (instrument_of c l) (suc n))
+cost-there c l i n tier within day =
+    sum_below-single (tiers c) n (λ m. cost_flow (alone c l) (one_on (suc i) (suc n)) 0 (suc i) (suc m)) tier
+    (λ m below differ. cost-off closing_day (cost c (instrument_of c l) (suc m)) (at_place i m i n) (at-other i m n (λ e. differ (omega (arith, e)))))
+    ∙ cost-on closing_day (cost c (instrument_of c l) (suc n)) (at_place i n i n) closes (at-same i n)
+  where
+    closing_day : Bool
+    closing_day = is_open c (instrument_of c l) (suc i) && nat_le (suc i) c.horizon
+
+    closes : closing_day ≡ true
+    closes = ap (λ b. b && nat_le (suc i) c.horizon) day ∙ le-leb (suc i) c.horizon (omega (arith, within))
+
+-- so in all the costs are the cost of the unit
+opposite : (b : Bool) (x : ℤ) → (if b then neg_ℤ x else pos 0) ≡ neg_ℤ (if b then x else pos 0)
+opposite true x = refl
+opposite false x = refl
+
+costs-of : (c : CaseView) (l i n t : ℕ) → n < tiers c → i < c.horizon → c.horizon ≤ c.last → is_open c (instrument_of c l) (suc i) ≡ true
+    → sum_days c.last (paid_cost c l (suc i) (suc n) t) ≡ neg_ℤ (unit_cost c l (suc i) (suc n) t)
+costs-of c l i n t tier within last day =
+    sum_below-single c.last i (λ w. paid_cost c l (suc i) (suc n) t (suc w)) (omega (arith, within, last)) (λ w below differ. none-on c l i n t w differ)
+    ∙ ap (λ z. if paid_test c l t (suc i) then z else pos 0) (cost-there c l i n tier within day)
+    ∙ opposite (paid_test c l t (suc i)) (cost c (instrument_of c l) (suc n))
+
+-- flows and costs, as they are paid
+apart : (b : Bool) (x y : ℤ) → (if b then x +ℤ y else pos 0) ≡ (if b then x else pos 0) +ℤ (if b then y else pos 0)
+apart true x y = refl
+apart false x y = refl
+
+-- the unit of a line that is closed on an open day
+pub unit-closed : (c : CaseView) (l k u j t : ℕ) → IsCase c → IsOpenClosing c l u j → unit c l k u j t ≡ unit_of c l k u j t
+unit-closed c l k zero j t kept closing = absurd (omega (arith, closing.from))
+unit-closed c l k (suc i) zero t kept closing = absurd (omega (arith, closing.tier))
+unit-closed c l k (suc i) (suc n) t kept closing =
+    unit-is c l k (suc i) (suc n) t
+    ∙ sum_below-cong c.last (λ w. paid_by (alone c l) (one_on (suc i) (suc n)) k t 0 (suc w))
+    (λ w. paid_flow (kind_of c l) c l k (suc i) (suc n) t (suc w) +ℤ paid_cost c l (suc i) (suc n) t (suc w))
+    (λ w below. apart (paid_test c l t (suc w)) (flow (alone c l) (one_on (suc i) (suc n)) k 0 (suc w))
+    (sum_tiers c (cost_flow (alone c l) (one_on (suc i) (suc n)) 0 (suc w))))
+    ∙ sum_below-plus c.last (λ w. paid_flow (kind_of c l) c l k (suc i) (suc n) t (suc w)) (λ w. paid_cost c l (suc i) (suc n) t (suc w))
+    ∙ ap (λ z. z +ℤ sum_days c.last (paid_cost c l (suc i) (suc n) t)) (flows-of (kind_of c l) c l k i n t tier within kept.last.0 closing.day)
+    ∙ ap (λ z. unit_by (kind_of c l) c l k (suc i) t +ℤ z) (costs-of c l i n t tier within kept.last.0 closing.day)
+  where
+    within : i < c.horizon
+    within = omega (arith, closing.to)
+
+    tier : n < tiers c
+    tier = omega (arith, closing.known)
