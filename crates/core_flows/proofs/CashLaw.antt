@@ -1,9 +1,9 @@
 -- The cash of a calendar that closes as allowed and in full is the fixed cash and what each closing pays by units.
-use Rattle.std.proofs.Common.{◌≡◌, refl, sym, ◌∙◌, ap, ℕ, suc, ◌-◌, ◌<◌, ◌≤◌, min, ℤ, pos, ◌+ℤ◌, ◌*ℤ◌, neg_ℤ, arith, Bool, true, false, ◌&&◌, if◌then◌else◌, nat_le}
+use Rattle.std.proofs.Common.{◌≡◌, refl, sym, ◌∙◌, ap, ℕ, suc, ◌-◌, ◌<◌, min, ℤ, pos, ◌+ℤ◌, ◌*ℤ◌, neg_ℤ, arith, Bool, true, false, ◌&&◌, if◌then◌else◌, nat_le}
 use Rattle.std.proofs.lemmas.Int.{ints}
 use Rattle.std.proofs.lemmas.Bool.{leb-true}
 use Rattle.std.proofs.Math.IntN.{zero-*ℤ}
-use Rattle.core_sums.specs.Sums.{sum_below, sum_days, sum_grid}
+use Rattle.core_sums.specs.Sums.{sum_below, sum_days}
 use Rattle.core_sums.proofs.SumLaws.{sum_below-cong, sum_below-zero}
 use Rattle.core_sums.proofs.Grids.{sum_grid-cong}
 use Rattle.core_book.specs.View.{CaseView, line, instrument_of, tiers, cost, is_open, is_allowed, no_line}

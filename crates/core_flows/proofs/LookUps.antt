@@ -11,7 +11,7 @@ use Rattle.core_book.proofs.Depth.{within-depth}
 use Rattle.core_model.specs.Closing.{line_count, size, price_of, kind_of, is_by}
 use Rattle.core_model.specs.Bounds.{unit}
 use Rattle.core_model.proofs.Sizes.{instrument-known}
-use Rattle.core_flows.specs.Units.{last_paid, marked_to, unit_by, unit_cost, unit_of}
+use Rattle.core_flows.specs.Units.{last_paid, marked_to, unit_by, unit_cost}
 use Rattle.core_days.specs.Days.{open_day_before, pay_day}
 use Rattle.core_flows.specs.Tables.{IsTable, IsPayTable}
 use Rattle.core_flows.proofs.Telescope.{day_before-cong}

@@ -112,7 +112,8 @@ fn unit_cost(case: &Case, pay_table: &PayTable, line: usize, closed: u8, tier: u
     ensures value { result ≡ unit_cost case.now line closed tier day }
     ensures small { unsigned_abs result ≤ 10 ^ 12 }
 {
-    if pay_table.is_paid_by(closed, day) {
+    let is_paid = pay_table.is_paid_by(closed, day);
+    if is_paid {
         case.cost(case.line(line).instrument, tier)
     } else {
         0

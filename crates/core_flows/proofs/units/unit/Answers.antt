@@ -1,7 +1,6 @@
 use Rattle.std.proofs.Common.{rules, arith, ◌≡◌, ◌∙◌, ◌^◌, ◌<◌, ◌-ℤ◌, unsigned_abs, FitsSigned, w64}
 use Rattle.std.proofs.lemmas.Int.{ints, to_z-of_z, fits_signed_from_abs}
 use mir.Syntax.{w128}
-use Rattle.core_flows.specs.Units.{unit_cost}
 use Rattle.core_flows.proofs.LookUps.{unit-allowed}
 use Rattle.core_flows.proofs.units.unit.Goals as goal
 
