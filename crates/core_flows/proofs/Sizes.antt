@@ -20,11 +20,11 @@ use Rattle.core_flows.proofs.Telescope.{day_before-le}
 pub cost-within : (c : CaseView) (i j : ℕ) → IsCase c → i < length c.instruments → unsigned_abs (cost c i j) ≤ 10 ^ 12
 cost-within c i j kept known = elim (cases_lt (j - 1) (length (row_at c.depth i))) [
   | inl has ↦
-    let here = ((depth-kept c i kept known).each (j - 1) no_tier has).cost in
-    abs-within (cost c i j) (10 ^ 12) (omega (arith, ints, here.0)) here.1
+      let here = ((depth-kept c i kept known).each (j - 1) no_tier has).cost in
+      abs-within (cost c i j) (10 ^ 12) (omega (arith, ints, here.0)) here.1
   | inr past ↦
-    let none : cost c i j ≡ pos 0 = ap (λ x. x.cost) (get_or_past (row_at c.depth i) (j - 1) no_tier past) in
-    omega (arith, ints, none)
+      let none : cost c i j ≡ pos 0 = ap (λ x. x.cost) (get_or_past (row_at c.depth i) (j - 1) no_tier past) in
+      omega (arith, ints, none)
 ]
 
 -- the day up to which marks are paid is a house day

@@ -76,8 +76,8 @@ impl<'a> Flows<'a> {
     }
 
     /// The cash that one unit of a line (from 0) pays by the house day `day` in a scenario (from 0), where it is closed
-    /// on the day `closed` in a tier (from 1), in which its closing is allowed: with the line's sign and multiplier, less
-    /// the tier's cost once that is paid, without fixed cash, and at most 2 * 10^18 + 10^12 in absolute value.
+    /// on the day `closed` in a tier (from 1), as is allowed: with the line's sign and multiplier, less the cost of the
+    /// tier once it is paid, without fixed cash, and at most 2 * 10^18 + 10^12 in absolute value.
     pub fn unit(&self, line: usize, scenario: usize, closed: u8, tier: u8, day: u8) -> i128
         requires line { line < length self.now.lines }
         requires scenario { scenario < length self.now.scenarios }
