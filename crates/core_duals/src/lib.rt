@@ -1,0 +1,16 @@
+//! The numbers that stand in a dictionary: the values of the columns' variables, the costs of the
+//! slacks, and a row's coefficients of the slacks, each list over its least common denominator.
+#![tactic(auto)]
+
+ghost use Rattle.core_duals.specs.Laws.{ListsAreOverCommon};
+
+mod lists;
+mod scaled;
+
+pub use lists::{duals, farkas, primal};
+pub use scaled::{DualFault, Scaled};
+
+/// The numerators of a list over its least common denominator are its fractions.
+pub fn list_law()
+    ensures { ListsAreOverCommon }
+{}

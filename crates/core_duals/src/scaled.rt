@@ -1,0 +1,62 @@
+// Fractions over their least common denominator.
+ghost use Rattle.std.specs.Prelude.{◌≡◌, ◌^◌, ◌-◌, map, Err, IfOk, OnOk};
+ghost use Rattle.exact_frac.specs.Value128.{value128};
+ghost use Rattle.core_duals.specs.Lists.{CommonLeaves};
+ghost use Rattle.core_duals.specs.Scaled.{IsOverCommon};
+
+use exact_frac::{Frac128, Left, common_den, scaled};
+use std::alloc::{AllocError, Global};
+
+/// A list of fractions over one denominator, which is at least 1: the numerators, in the list's
+/// order.
+#[derive(Debug, Drop)]
+pub struct Scaled {
+    pub den: i128,
+    pub numbers: Vec<i128>,
+}
+
+/// Why a list is not put over one denominator.
+#[derive(Clone, Copy, Debug, PartialEq, Eq)]
+pub enum DualFault {
+    /// The least common denominator, or a numerator over it, is above 2^127 - 1 in absolute value.
+    TooWide,
+    /// Memory was refused.
+    NoMemory,
+}
+
+impl From<AllocError> for DualFault {
+    ghost use Rattle.std.specs.Prelude.{◌≡◌};
+    ghost use Rattle.core_duals.specs.declared.scaled.DualFault.TheVariants.{NoMemory};
+
+    ghost from_gives = { λ _ r. r ≡ NoMemory };
+
+    fn from(_: AllocError) -> DualFault {
+        DualFault::NoMemory
+    }
+}
+
+impl From<Left> for DualFault {
+    ghost use Rattle.std.specs.Prelude.{◌≡◌};
+    ghost use Rattle.core_duals.specs.declared.scaled.DualFault.TheVariants.{TooWide};
+
+    ghost from_gives = { λ _ r. r ≡ TooWide };
+
+    fn from(_: Left) -> DualFault {
+        DualFault::TooWide
+    }
+}
+
+/// A list over its least common denominator.
+pub(crate) fn over_common(alloc: Global, list: &[Frac128]) -> Result<Scaled, DualFault>
+    ensures exact { IfOk result (IsOverCommon (map value128 list.now)) }
+    ensures fits { OnOk result (¬ (CommonLeaves (2 ^ 127 - 1) (map value128 list.now))) }
+    ensures too_wide { result ≡ Err DualFault.TooWide
+        → CommonLeaves (2 ^ 127 - 1) (map value128 list.now) }
+{
+    let den = common_den(list)?;
+    let mut numbers = vec![in alloc; 0i128; list.len()]?;
+    for i in 0..list.len() {
+        numbers[i] = scaled(list[i], den)?;
+    }
+    Ok(Scaled { den, numbers })
+}
