@@ -1,10 +1,12 @@
-//! The tests of dictionaries, rules and runs, a module for each, by their public calls alone.
+//! The tests of dictionaries, rules and runs, and of the numbers that these leave, a module for each, by their public calls alone.
 //!
 //! A library with tests of its own would be proved twice, so they all stand here, over what the gate proves once.
 #![tactic(auto)]
 
 #[cfg(test)]
 mod dict;
+#[cfg(test)]
+mod duals;
 #[cfg(test)]
 mod refuse;
 #[cfg(test)]
