@@ -1,6 +1,6 @@
 -- Numbers put over one denominator, one after the other.
-use Rattle.std.proofs.Common.{◌≡◌, ℕ, zero, suc, ◌+◌, ◌<◌, ◌≤◌, List, [], ◌∷◌, length, map, get_or, set, below_more, unsigned_abs, ℤ, pos}
-use Rattle.std.proofs.Common.{sym, ◌∙◌, subst, arith}
+use Rattle.std.proofs.Common.{◌≡◌, ℕ, zero, suc, ◌+◌, ◌<◌, ◌≤◌, ℤ, pos, unsigned_abs, List, [], ◌∷◌}
+use Rattle.std.proofs.Common.{length, map, get_or, set, below_more, sym, ap₂, ◌∙◌, subst, arith}
 use Rattle.std.specs.Int.{◌∣◌}
 use Rattle.std.proofs.lemmas.List.{ext_get_or, length-map, get_or-map, get_or-set_same, get_or-set_other}
 use Rattle.std.proofs.lemmas.List.Elements.{Contains-get_or}
@@ -8,18 +8,35 @@ use Rattle.core_sums.specs.Places.{at}
 use Rattle.fractions.specs.Fraction.{Fraction, zero_q}
 use Rattle.fractions.specs.Common.{common_den, numerator_over, AllDivide}
 use Rattle.fractions.proofs.Common.{lcm_all_divides}
+use Rattle.exact_frac.specs.Value128.{value128}
+use Rattle.exact_frac.specs.declared.frac128.Frac128.{Frac128}
+use Rattle.core_dict.specs.Rows.{fraction_at}
+use Rattle.core_dict.proofs.Reading.{fraction_is}
 use Rattle.core_duals.specs.Lists.{over_common, CommonLeaves, Denominator, Numerator}
 
 -- what each denominator divides
-each_divides : (qs : List Fraction) (m : ℕ) → AllDivide (map (λ q. q.den) qs) m → (i : ℕ) (q : Fraction) → i < length qs
-    → (get_or qs i q).den ∣ m
+each_divides : (qs : List Fraction) (m : ℕ) → AllDivide (map (λ q. q.den) qs) m → (i : ℕ) (q : Fraction)
+    → i < length qs → (get_or qs i q).den ∣ m
 each_divides [] m d i q l = absurd (omega arith)
 each_divides (p ∷ qs) m d zero q l = d.0
 each_divides (p ∷ qs) m d (suc i) q l = each_divides qs m d.1 i q (omega arith)
 
--- a denominator divides the common one
-pub common_divides : (qs : List Fraction) (i : ℕ) (q : Fraction) → i < length qs → (get_or qs i q).den ∣ common_den qs
-common_divides qs = each_divides qs (common_den qs) (lcm_all_divides (map (λ q. q.den) qs))
+-- ---- a number x that was read at place i, and the common denominator m
+module _ (xs : List Frac128) (i m : ℕ) (x : Frac128) (l : i < length xs) (read : x ≡ get_or xs i x)
+    (common : m ≡ common_den (map value128 xs)) where
+  -- its denominator divides the common one
+  pub common_divides : x.den ∣ m
+  common_divides =
+      let qs = map value128 xs in
+      subst (λ (n : ℕ). x.den ∣ n) (sym common)
+      (subst (λ (q : Fraction). q.den ∣ common_den qs) (fraction_is value128 xs i x l read)
+      (each_divides qs (common_den qs) (lcm_all_divides (map (λ q. q.den) qs)) i zero_q
+      (omega (arith, l, length-map xs value128))))
+
+  -- and its numerator is the one at that place
+  pub numerator_read : numerator_over m (value128 x)
+      ≡ numerator_over (common_den (map value128 xs)) (fraction_at value128 xs i)
+  numerator_read = ap₂ numerator_over common (sym (fraction_is value128 xs i x l read))
 
 -- the numerator at a place
 pub numerator_at : (qs : List Fraction) (i : ℕ) (d : ℤ) → i < length qs
@@ -49,7 +66,8 @@ pub none_leaves : (most : ℕ) (qs : List Fraction) → (most < common_den qs �
 none_leaves most qs d each (Denominator h) = d h
 none_leaves most qs d each (Numerator n h above) =
     let inside : h.0 < length qs = omega (arith, h.1, length-map qs (numerator_over (common_den qs))) in
-    let is : numerator_over (common_den qs) (get_or qs h.0 zero_q) ≡ n = sym (numerator_at qs h.0 n inside) ∙ h.2 in
+    let is : numerator_over (common_den qs) (get_or qs h.0 zero_q) ≡ n =
+    sym (numerator_at qs h.0 n inside) ∙ h.2 in
     let fits : unsigned_abs n ≤ most = subst (λ (z : ℤ). unsigned_abs z ≤ most) is (each h.0 inside) in
     omega (arith, above, fits)
 
@@ -58,5 +76,6 @@ pub one_leaves : (most : ℕ) (qs : List Fraction) (i : ℕ) → i < length qs
     → most < unsigned_abs (numerator_over (common_den qs) (get_or qs i zero_q)) → CommonLeaves most qs
 one_leaves most qs i l above =
     Numerator (at (over_common qs) i)
-    (Contains-get_or (over_common qs) i (pos 0) (omega (arith, l, length-map qs (numerator_over (common_den qs)))))
+    (Contains-get_or (over_common qs) i (pos 0)
+    (omega (arith, l, length-map qs (numerator_over (common_den qs)))))
     (subst (λ (z : ℤ). most < unsigned_abs z) (sym (numerator_at qs i (pos 0) l)) above)
