@@ -7,11 +7,12 @@ ghost use Rattle.core_duals.specs.Scaled.{IsOverCommon};
 use exact_frac::{Frac128, Left, common_den, scaled};
 use std::alloc::{AllocError, Global};
 
-/// A list of fractions over one denominator, which is at least 1: the numerators, in the list's
-/// order.
+/// A list of fractions over one denominator.
 #[derive(Debug, Drop)]
 pub struct Scaled {
+    /// The least common denominator, so at least 1.
     pub den: i128,
+    /// The numerators over it, in the list's order.
     pub numbers: Vec<i128>,
 }
 

@@ -46,8 +46,8 @@ loop-i-preserved c =
     (ap unsigned_abs (to_z-of_z w128 c.in_ok-den.den (search rules) ∙ c.in_ok-den.ensures.exact)) in
     let fits : most128 < unsigned_abs (f i) → ⊥ =
     λ h. let e : false ≡ true =
-        c.in_ok-numbers-2.ensures.left.1 (subst (λ (z : ℤ). most128 < unsigned_abs z) (sym is) h) in
-        (cc) in
+    c.in_ok-numbers-2.ensures.left.1 (subst (λ (z : ℤ). most128 < unsigned_abs z) (sym is) h) in
+    (cc) in
     record {
       width = length-set c.loop-i.numbers.items i _ ∙ c.loop-i.invariant.width;
       each = more_written c.loop-i.numbers.items i _ f
