@@ -9,7 +9,7 @@ use Rattle.core_rows.specs.Names.{Record, field}
 use Rattle.core_case.specs.Kinds.{word_of, kinds, is_kind}
 use Rattle.core_case.specs.Faults.{key_of, group_of, is_filed, is_in_group}
 use Rattle.core_case.specs.declared.kinds.RecordKind.{RecordKind}
-use Rattle.core_case.specs.declared.kinds.RecordKind.TheVariants.{Core, House, Market, Holiday, Instrument, Limit, Pool, Member, Scenario, Path, Position, Collateral, Cash, End}
+use Rattle.core_case.specs.declared.kinds.RecordKind.TheVariants.{Core, House, Market, Holiday, Instrument, Limit, Tier, Pool, Member, Scenario, Path, Position, Collateral, Cash, End}
 use Rattle.core_case.specs.declared.register.Key.{Key}
 use Rattle.core_case.specs.declared.register.Group.{Group}
 use Rattle.core_case.specs.contracts.kinds.RecordKind.{the_type}
@@ -25,7 +25,7 @@ same_key a b = same_kind a.kind b.kind && (bytes_eq a.first.now b.first.now && b
 
 -- the `==` of groups
 abbrev pub same_group : Group → Group → Bool
-same_group a b = same_kind a.kind b.kind && bytes_eq a.market.now b.market.now
+same_group a b = same_kind a.kind b.kind && bytes_eq a.name.now b.name.now
 
 -- the kind of a word
 abbrev kind_of_word : List ℕ → Option RecordKind
@@ -39,6 +39,7 @@ kind-of-word Market = refl
 kind-of-word Holiday = refl
 kind-of-word Instrument = refl
 kind-of-word Limit = refl
+kind-of-word Tier = refl
 kind-of-word Pool = refl
 kind-of-word Member = refl
 kind-of-word Scenario = refl
@@ -83,7 +84,7 @@ pub record IsKeyOf (kind : RecordKind) (r : Record) (key : Key) : Type 0 where
 -- the group of a record of a kind
 pub record IsGroupOf (kind : RecordKind) (r : Record) (group : Group) : Type 0 where
   pub kind_is : group.kind ≡ kind
-  pub market_is : group.market.now ≡ group_of kind r
+  pub name_is : group.name.now ≡ group_of kind r
 
 -- a record is filed under the keys that equal its own
 pub key-test : (kind : RecordKind) (r : Record) (key k : Key) → is_kind kind r ≡ true → IsKeyOf kind r key → is_filed k.kind k.first.now k.second.now r ≡ same_key key k
@@ -95,11 +96,11 @@ key-test kind r key k h of =
     (λ e. ap (λ x. bytes_eq k.second.now (key_of x r).1) (one-kind k.kind kind r e h) ∙ ap (bytes_eq k.second.now) (sym of.second_is) ∙ bytes_eq-sym k.second.now key.second.now)
 
 -- a record is counted in the groups that equal its own
-pub group-test : (kind : RecordKind) (r : Record) (group g : Group) → is_kind kind r ≡ true → IsGroupOf kind r group → is_in_group g.kind g.market.now r ≡ same_group group g
+pub group-test : (kind : RecordKind) (r : Record) (group g : Group) → is_kind kind r ≡ true → IsGroupOf kind r group → is_in_group g.kind g.name.now r ≡ same_group group g
 group-test kind r group g h of =
     let here : is_kind group.kind r ≡ true = subst (λ (x : RecordKind). is_kind x r ≡ true) (sym of.kind_is) h in
-    two-tests (is_kind g.kind r) (bytes_eq g.market.now (group_of g.kind r)) (same_kind group.kind g.kind) (bytes_eq group.market.now g.market.now) (kind-test group.kind g.kind r here)
-    (λ e. ap (λ x. bytes_eq g.market.now (group_of x r)) (one-kind g.kind kind r e h) ∙ ap (bytes_eq g.market.now) (sym of.market_is) ∙ bytes_eq-sym g.market.now group.market.now)
+    two-tests (is_kind g.kind r) (bytes_eq g.name.now (group_of g.kind r)) (same_kind group.kind g.kind) (bytes_eq group.name.now g.name.now) (kind-test group.kind g.kind r here)
+    (λ e. ap (λ x. bytes_eq g.name.now (group_of x r)) (one-kind g.kind kind r e h) ∙ ap (bytes_eq g.name.now) (sym of.name_is) ∙ bytes_eq-sym g.name.now group.name.now)
 
 -- equal keys are of one kind and have the same words
 pub record AreAlike (a b : Key) : Type 0 where
@@ -117,8 +118,8 @@ alike-keys a b h =
       seconds = (bytes_eq-Decides a.second.now b.second.now).0 words.1;
     }
 
--- equal groups are of one kind and of one market
-pub alike-groups : (a b : Group) → same_group a b ≡ true → (a.kind ≡ b.kind) × (a.market.now ≡ b.market.now)
+-- equal groups are of one kind and have the same name
+pub alike-groups : (a b : Group) → same_group a b ≡ true → (a.kind ≡ b.kind) × (a.name.now ≡ b.name.now)
 alike-groups a b h =
-    let parts = and_parts (same_kind a.kind b.kind) (bytes_eq a.market.now b.market.now) h in
-    (same_true the_type tt a.kind b.kind parts.0, (bytes_eq-Decides a.market.now b.market.now).0 parts.1)
+    let parts = and_parts (same_kind a.kind b.kind) (bytes_eq a.name.now b.name.now) h in
+    (same_true the_type tt a.kind b.kind parts.0, (bytes_eq-Decides a.name.now b.name.now).0 parts.1)

@@ -18,7 +18,7 @@ filed_at k rs = filed k.kind k.first.now k.second.now rs
 
 -- how many records they count in a group
 abbrev pub counted_in : Group → List Record → ℕ
-counted_in g rs = count_in g.kind g.market.now rs
+counted_in g rs = count_in g.kind g.name.now rs
 
 -- a record more is filed under its own key, unless one is there
 filed-push : (kind : RecordKind) (r : Record) (key k : Key) (rs : List Record) → is_kind kind r ≡ true → IsKeyOf kind r key
@@ -36,7 +36,7 @@ one-or-none false r = refl
 count-push : (kind : RecordKind) (r : Record) (group g : Group) (rs : List Record) → is_kind kind r ≡ true → IsGroupOf kind r group
     → counted_in g (rs ++ (r ∷ [])) ≡ counted_in g rs + cond (same_group group g) 1 0
 count-push kind r group g rs h of =
-    let test = is_in_group g.kind g.market.now in
+    let test = is_in_group g.kind g.name.now in
     ap length (filter-append test rs (r ∷ [])) ∙ length-append (filter test rs) (cond (test r) (r ∷ []) [])
     ∙ ap (λ n. counted_in g rs + n) (one-or-none (test r) r ∙ ap (λ b. cond b 1 0) (group-test kind r group g h of))
 
@@ -46,7 +46,7 @@ filed-alike key k rs e = let a = alike-keys key k e in let kinds = a.kinds in le
 
 -- groups that are equal count the same
 count-alike : (group g : Group) (rs : List Record) → same_group group g ≡ true → counted_in g rs ≡ counted_in group rs
-count-alike group g rs e = let a = alike-groups group g e in let kinds = a.0 in let markets = a.1 in rw (kinds, markets) refl
+count-alike group g rs e = let a = alike-groups group g e in let kinds = a.0 in let names = a.1 in rw (kinds, names) refl
 
 -- no record after the first leaves the first
 or-none : (o : Option Record) → option_or o None ≡ o
@@ -119,5 +119,5 @@ counted-raised kind r group rs h of old new n counts is puts g = split (same_gro
 -- there are no more in a group than records
 pub counted-most : (g : Group) (rs : List Record) → counted_in g rs ≤ length rs
 counted-most g rs =
-    let test = is_in_group g.kind g.market.now in
+    let test = is_in_group g.kind g.name.now in
     let both : length (filter test rs) + length (filter (λ r. not (test r)) rs) ≡ length rs = length-filter_both test (λ r. not (test r)) (λ r. refl) rs in omega arith

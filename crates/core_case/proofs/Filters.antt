@@ -86,6 +86,19 @@ pub AllPairs-map_filter_at : {A B : Type 0} (R : B → B → Type 0) (f : A → 
     → ((i j : ℕ) → i < j → j < length xs → p (get_or xs i d) ≡ true → p (get_or xs j d) ≡ true → R (f (get_or xs i d)) (f (get_or xs j d))) → AllPairs R (map f (filter p xs))
 AllPairs-map_filter_at R f p xs d each = AllPairs-map R f (filter p xs) (AllPairs-filter_at (λ x y. R (f x) (f y)) p xs d each)
 
+-- two filters one after the other are a filter by both tests
+pub filter-filter : {A : Type 0} (p q both : A → Bool) → ((x : A) → both x ≡ (p x && q x)) → (xs : List A) → filter q (filter p xs) ≡ filter both xs
+filter-filter p q both same [] = refl
+filter-filter {A} p q both same (x ∷ xs) = by (p x) (filter-filter p q both same xs) ∙ ap (λ b. cond b (x ∷ filter both xs) (filter both xs)) (sym (same x))
+  where
+    inner : (b : Bool) → filter q (filter p xs) ≡ filter both xs → cond b (x ∷ filter q (filter p xs)) (filter q (filter p xs)) ≡ cond b (x ∷ filter both xs) (filter both xs)
+    inner true rest = ap (λ ys. x ∷ ys) rest
+    inner false rest = rest
+
+    by : (b : Bool) → filter q (filter p xs) ≡ filter both xs → filter q (cond b (x ∷ filter p xs) (filter p xs)) ≡ cond (b && q x) (x ∷ filter both xs) (filter both xs)
+    by true rest = inner (q x) rest
+    by false rest = rest
+
 -- a filter over one more element
 pub filter-push : {A : Type 0} (p : A → Bool) (xs : List A) (x : A) → filter p (xs ++ (x ∷ [])) ≡ filter p xs ++ cond (p x) (x ∷ []) []
 filter-push p xs x = filter-append p xs (x ∷ [])

@@ -4,7 +4,6 @@ mod FiledRows
 mod Filters
 mod FormsDates
 mod LinesKept
-mod Lookups
 mod NamesDeclared
 mod NamesKept
 mod NamesSound

@@ -19,7 +19,8 @@ use Rattle.core_case.specs.Stated.{case_of, declared_names, instrument_of_record
 use Rattle.core_book.specs.Kept.{IsIn, IsLine}
 use Rattle.core_case.proofs.Filters.{All-map_filter_at, AllPairs-map_filter_at, find-take}
 use Rattle.core_rows.proofs.FirstStep.{holds-from_none, fails-from_none}
-use Rattle.core_case.proofs.WholeRecords.{same-kind, sound-of, number-between}
+use Rattle.core_case.proofs.FiledKeys.{one-kind}
+use Rattle.core_case.proofs.WholeRecords.{sound-of, number-between}
 use Rattle.core_case.proofs.NamesSound.{names-differ}
 use Rattle.core_case.proofs.NamesDeclared.{refers-declared, declared-before, declared-is, places-differ}
 use Rattle.core_case.proofs.NamesKept.{as-declared}
@@ -50,7 +51,7 @@ abbrev LineKind : List Record → ℕ → Type 0
 LineKind rs i = (is_kind Position (row_at rs i) ≡ true) ⊎ (is_kind Collateral (row_at rs i) ≡ true)
 
 not-position : (r : Record) → is_kind Collateral r ≡ true → is_kind Position r ≡ false
-not-position r is = false_from_ne_true (is_kind Position r) (λ other. let same : Position ≡ Collateral = same-kind Position Collateral r other is in absurd (cc))
+not-position r is = false_from_ne_true (is_kind Position r) (λ other. let same : Position ≡ Collateral = one-kind Position Collateral r other is in absurd (cc))
 
 -- the instrument of a line is filed before it, and so declared
 line-filed : (rs : List Record) → first_fault rs ≡ None → (i : ℕ) → i < length rs → LineKind rs i → is_some (filed Instrument (field (row_at rs i) 1) [] (take i rs)) ≡ true

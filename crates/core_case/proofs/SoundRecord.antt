@@ -10,24 +10,23 @@ use Rattle.core_case.specs.declared.forms.Form.{Form}
 use Rattle.core_case.specs.declared.forms.Form.TheVariants.{Version}
 use Rattle.core_case.specs.declared.faults.RecordFault.{RecordFault}
 use Rattle.core_case.specs.declared.faults.RecordFault.TheVariants.{EndMissing}
-use Rattle.core_case.specs.Kinds.{is_kind, kind_of, kinds, forms, references}
-use Rattle.core_case.specs.Faults.{Faulty, fault_of, first_fault, first_fault_after, missing_end, end_before, kind_step, later_fault, own_fault, book_fault, form_fault, range_fault, horizon_in, last_in, order_step, zero_step, name_step, security_step, repeats, has_room, end_step, has_ended}
+use Rattle.core_case.specs.Kinds.{is_kind, kind_of, forms, references}
+use Rattle.core_case.specs.Faults.{Faulty, fault_of, first_fault, first_fault_after, missing_end, end_before, kind_step, later_fault, own_fault, book_fault, form_fault, range_fault, heading_of, order_step, zero_step, name_step, security_step, repeats, has_room, end_step, has_ended}
 use Rattle.core_rows.specs.Steps.{first_of}
 use Rattle.core_rows.proofs.FirstStep.{holds-from_none, fails-from_none, neither, first_of-parts}
 use Rattle.core_rows.proofs.FieldWalk.{field-at}
-use Rattle.core_case.proofs.ReadingFaults.{find-passes}
+use Rattle.core_case.proofs.ReadingFaults.{kind-is}
 
 -- the steps that a sound record of a kind passes, among the records before it
 pub record SoundRecord (earlier : List Record) (r : Record) (kind : RecordKind) : Type 0 where
-  pub kind_is : kind_of r ≡ Some kind
   pub of_kind : is_kind kind r ≡ true
   pub going_on : has_ended earlier ≡ false
   pub order : order_step (length earlier) kind ≡ None
-  pub count : length r ≡ suc (length (forms (horizon_in earlier) (last_in earlier) r kind))
-  pub formed : (n : ℕ) → n < length (forms (horizon_in earlier) (last_in earlier) r kind)
-      → form_fault (get_or (forms (horizon_in earlier) (last_in earlier) r kind) n Version) (field r (suc n)) ≡ None
-  pub ranged : (n : ℕ) → n < length (forms (horizon_in earlier) (last_in earlier) r kind)
-      → range_fault (get_or (forms (horizon_in earlier) (last_in earlier) r kind) n Version) (field r (suc n)) ≡ None
+  pub count : length r ≡ suc (length (forms (heading_of earlier) r kind))
+  pub formed : (n : ℕ) → n < length (forms (heading_of earlier) r kind)
+      → form_fault (get_or (forms (heading_of earlier) r kind) n Version) (field r (suc n)) ≡ None
+  pub ranged : (n : ℕ) → n < length (forms (heading_of earlier) r kind)
+      → range_fault (get_or (forms (heading_of earlier) r kind) n Version) (field r (suc n)) ≡ None
   pub not_zero : zero_step r kind ≡ None
   pub names : first_of (map (name_step earlier r) (references kind)) ≡ None
   pub security : security_step earlier r kind ≡ None
@@ -86,15 +85,14 @@ book-sound earlier r kind e =
     }
 
 -- a record of a kind with no fault is sound
-of-kind-sound : (earlier : List Record) (r : Record) (kind : RecordKind) → kind_of r ≡ Some kind → has_ended earlier ≡ false
+of-kind-sound : (earlier : List Record) (r : Record) (kind : RecordKind) → kind_of (heading_of earlier).version r ≡ Some kind → has_ended earlier ≡ false
     → later_fault earlier r (Some kind) ≡ None → SoundRecord earlier r kind
-of-kind-sound earlier r kind kind_is going_on e =
-    let parts = neither (own_fault (length earlier) (forms (horizon_in earlier) (last_in earlier) r kind) r kind) (book_fault earlier r kind) e in
-    let own = own-sound (length earlier) (forms (horizon_in earlier) (last_in earlier) r kind) r kind parts.0 in
+of-kind-sound earlier r kind known going_on e =
+    let parts = neither (own_fault (length earlier) (forms (heading_of earlier) r kind) r kind) (book_fault earlier r kind) e in
+    let own = own-sound (length earlier) (forms (heading_of earlier) r kind) r kind parts.0 in
     let book = book-sound earlier r kind parts.1 in
     record {
-      kind_is = kind_is;
-      of_kind = find-passes (λ k. is_kind k r) kinds kind kind_is;
+      of_kind = kind-is (heading_of earlier).version r kind known;
       going_on = going_on;
       order = own.order;
       count = own.count;
@@ -109,31 +107,34 @@ of-kind-sound earlier r kind kind_is going_on e =
     }
 
 -- a record that passes the step of the kind has one
-has-kind : (place : ℕ) (r : Record) → kind_step place r ≡ None → kind_of r ≡ None → ⊥
-has-kind zero r e none =
+has-kind : (place version : ℕ) (r : Record) → kind_step place version r ≡ None → kind_of version r ≡ None → ⊥
+has-kind zero version r e none =
     let core : is_kind Core r ≡ true = holds-from_none _ _ e in
-    let is : kind_of r ≡ Some Core = rw core refl in
+    let is : kind_of version r ≡ Some Core = rw core refl in
     cc
-has-kind (suc n) r e none =
-    let known : is_some (kind_of r) ≡ true = holds-from_none _ _ e in
-    let unknown : is_some (kind_of r) ≡ false = ap (λ o. is_some o) none in
+has-kind (suc n) version r e none =
+    let known : is_some (kind_of version r) ≡ true = holds-from_none _ _ e in
+    let unknown : is_some (kind_of version r) ≡ false = ap (λ o. is_some o) none in
     cc
 
 -- a record without a fault is sound, and of some kind
 pub sound-record : (earlier : List Record) (r : Record) → fault_of earlier r ≡ None → (kind : RecordKind) × SoundRecord earlier r kind
-sound-record earlier r e = split (kind_of r) refl
+sound-record earlier r e = split (kind_of (heading_of earlier).version r) refl
   where
-    going : (end_before earlier ≡ None) × (first_of (kind_step (length earlier) r ∷ later_fault earlier r (kind_of r) ∷ []) ≡ None)
+    version : ℕ
+    version = (heading_of earlier).version
+
+    going : (end_before earlier ≡ None) × (first_of (kind_step (length earlier) version r ∷ later_fault earlier r (kind_of version r) ∷ []) ≡ None)
     going = first_of-parts _ _ e
 
-    known : (kind_step (length earlier) r ≡ None) × (first_of (later_fault earlier r (kind_of r) ∷ []) ≡ None)
+    known : (kind_step (length earlier) version r ≡ None) × (first_of (later_fault earlier r (kind_of version r) ∷ []) ≡ None)
     known = first_of-parts _ _ going.1
 
-    later : later_fault earlier r (kind_of r) ≡ None
+    later : later_fault earlier r (kind_of version r) ≡ None
     later = (first_of-parts _ _ known.1).0
 
-    split : (o : Option RecordKind) → kind_of r ≡ o → (kind : RecordKind) × SoundRecord earlier r kind
-    split None is = absurd (has-kind (length earlier) r known.0 is)
+    split : (o : Option RecordKind) → kind_of version r ≡ o → (kind : RecordKind) × SoundRecord earlier r kind
+    split None is = absurd (has-kind (length earlier) version r known.0 is)
     split (Some kind) is =
         (kind, of-kind-sound earlier r kind is (fails-from_none _ _ going.0) (subst (λ (o : Option RecordKind). later_fault earlier r o ≡ None) is later))
 

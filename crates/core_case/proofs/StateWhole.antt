@@ -4,6 +4,7 @@ use Rattle.std.specs.List.{All, AllPairs}
 use Rattle.std.proofs.lemmas.List.{get_or-map, length-map}
 use Rattle.core_rows.specs.Names.{Record, field}
 use Rattle.core_rows.specs.Fields.{IsName}
+use Rattle.core_book.specs.Kept.{IsInstrument}
 use Rattle.core_case.specs.Faults.{of_kind}
 use Rattle.core_case.specs.Stated.{declared_names, instrument_of_record, names_in, pool_of_record}
 use Rattle.core_case.specs.Whole.{IsWhole}
@@ -41,3 +42,11 @@ pub house_stands : (rs : List Record) → IsWhole rs → 2 ≤ length rs
 house_stands [] whole = absurd (omega (arith, whole.kept.horizon.0))
 house_stands (r ∷ []) whole = absurd (omega (arith, whole.kept.horizon.0))
 house_stands (r ∷ s ∷ rs) whole = omega arith
+
+-- no instrument expires after the last day that may be a closing day
+pub instruments_short : (rs : List Record) → IsWhole rs → All (IsInstrument 20) (map instrument_of_record (of_kind Instrument rs))
+instruments_short rs whole = λ k d within.
+    let x = whole.kept.instruments.1 k d within in
+    let expiry = x.expiry in
+    let most = whole.kept.horizon.1 in
+    record { name = x.name; mult = x.mult; delay = x.delay; lag = x.lag; expiry = omega (arith, expiry, most); security = x.security }

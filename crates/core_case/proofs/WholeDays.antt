@@ -9,18 +9,17 @@ use Rattle.std.specs.List.{All, find}
 use Rattle.std.specs.Str.{bytes_eq}
 use Rattle.core_sums.specs.Places.{row_at, below}
 use Rattle.core_sums.proofs.Lists.{length-below}
-use Rattle.core_rows.proofs.NamePlaces.{bytes_eq-sym}
 use Rattle.core_rows.specs.Names.{Record, field}
 use Rattle.core_rows.specs.Fields.{day_of}
 use Rattle.core_case.specs.declared.kinds.RecordKind.TheVariants.{House, Market, Holiday, Cash}
 use Rattle.core_case.specs.Kinds.{is_kind, number_in}
 use Rattle.core_book.specs.Kept.{IsIn, IsStart, IsHoliday, AreIn}
-use Rattle.core_case.specs.Faults.{first_fault, first_date, last_start, last_holiday, last_in, of_kind, is_in_group, count_in}
+use Rattle.core_case.specs.Faults.{first_fault, first_date, last_start, last_holiday, heading_of, of_kind, is_in_group, count_in}
 use Rattle.core_case.specs.Stated.{case_of, day_in, holidays_of, market_names, declared_names, cash_on}
 use Rattle.core_case.proofs.SoundRecord.{SoundRecord}
 use Rattle.core_rows.proofs.FirstStep.{holds-from_none}
 use Rattle.core_case.proofs.Filters.{All-filter_at}
-use Rattle.core_case.proofs.WholeRecords.{house-sound, many-records, in-form, count-kept, some-between, number-between, natural-between}
+use Rattle.core_case.proofs.WholeRecords.{house-sound, many-records, in-form, count-kept, named-kept, some-between, number-between, natural-between}
 
 -- the second record of a sound file is a sound `house`
 house : (rs : List Record) → first_fault rs ≡ None → SoundRecord (take 1 rs) (row_at rs 1) House
@@ -53,26 +52,11 @@ last-kept rs e =
     let within = number-between (number_in (row_at rs 1) 2) (pos 40) (row_at rs 1) 3 (sound.formed 2 (omega arith)) (sound.ranged 2 (omega arith)) in
     natural-order (number_in (row_at rs 1) 2) (number_in (row_at rs 1) 3) 40 (closing rs e).0 within
 
--- two filters one after the other are a filter by both tests
-filter-filter : {A : Type 0} (p q both : A → Bool) → ((x : A) → both x ≡ (p x && q x)) → (xs : List A) → filter q (filter p xs) ≡ filter both xs
-filter-filter p q both same [] = refl
-filter-filter {A} p q both same (x ∷ xs) = by (p x) (filter-filter p q both same xs) ∙ ap (λ b. cond b (x ∷ filter both xs) (filter both xs)) (sym (same x))
-  where
-    inner : (b : Bool) → filter q (filter p xs) ≡ filter both xs → cond b (x ∷ filter q (filter p xs)) (filter q (filter p xs)) ≡ cond b (x ∷ filter both xs) (filter both xs)
-    inner true rest = ap (λ ys. x ∷ ys) rest
-    inner false rest = rest
-
-    by : (b : Bool) → filter q (filter p xs) ≡ filter both xs → filter q (cond b (x ∷ filter p xs) (filter p xs)) ≡ cond (b && q x) (x ∷ filter both xs) (filter both xs)
-    by true rest = inner (q x) rest
-    by false rest = rest
-
 -- the holidays of a market are no more than a case takes
 few-holidays : (rs : List Record) → first_fault rs ≡ None → (market : List ℕ) → length (holidays_of rs market) ≤ 400
 few-holidays rs e market =
-    let same : filter (λ r. bytes_eq (field r 1) market) (of_kind Holiday rs) ≡ filter (is_in_group Holiday market) rs =
-    filter-filter (is_kind Holiday) (λ r. bytes_eq (field r 1) market) (is_in_group Holiday market) (λ r. ap (λ b. is_kind Holiday r && b) (bytes_eq-sym market (field r 1))) rs in
-    let few : count_in Holiday market rs ≤ 400 = count-kept Holiday 400 refl market rs e in
-    let size : length (holidays_of rs market) ≡ count_in Holiday market rs = length-map _ (λ r. day_in r 2) ∙ ap length same in
+    let few : length (filter (λ r. bytes_eq (field r 1) market) (of_kind Holiday rs)) ≤ 400 = named-kept Holiday 400 refl (λ r. refl) market rs e in
+    let size : length (holidays_of rs market) ≡ length (filter (λ r. bytes_eq (field r 1) market) (of_kind Holiday rs)) = length-map _ (λ r. day_in r 2) in
     omega (arith, few, size)
 
 -- each of them is a date in its range
@@ -139,6 +123,6 @@ cash-within rs e t =
 -- so the case has cash in its range for each house day
 pub cash-kept : (rs : List Record) → first_fault rs ≡ None → AreIn (suc (case_of rs).last) (negsuc 999999999999999) (pos (10 ^ 15)) (case_of rs).cash
 cash-kept rs e = (
-  length-map (below (suc (last_in rs))) (cash_on rs) ∙ length-below (suc (last_in rs)),
-  All-map (IsIn (negsuc 999999999999999) (pos (10 ^ 15))) (cash_on rs) (below (suc (last_in rs))) (λ k d within. cash-within rs e (get_or (below (suc (last_in rs))) k d)),
+  length-map (below (suc (heading_of rs).last)) (cash_on rs) ∙ length-below (suc (heading_of rs).last),
+  All-map (IsIn (negsuc 999999999999999) (pos (10 ^ 15))) (cash_on rs) (below (suc (heading_of rs).last)) (λ k d within. cash-within rs e (get_or (below (suc (heading_of rs).last)) k d)),
 )

@@ -1,24 +1,26 @@
--- The lists of the case that a sound file states: limits by instrument, prices by scenario and instrument, and some scenario.
+-- The lists of the case that a sound file states: tiers by instrument, prices by scenario and instrument, and some scenario.
 use Rattle.std.proofs.Common.{◌≡◌, refl, sym, ◌∙◌, ap, subst, ℕ, suc, ◌+◌, ◌^◌, ◌<◌, ◌≤◌, arith, ℤ, pos, negsuc, Bool, true, List, [], ◌∷◌, ◌++◌, length, length-drop, map, filter, take, drop, get_or, replicate, Option, None, is_some}
+use Rattle.std.proofs.lemmas.Int.{ints}
 use Rattle.std.proofs.lemmas.Bool.{and_parts, ltb-true}
 use Rattle.std.proofs.lemmas.List.{length-map, length-append, length-replicate, length-take-le, get_or-map, get_or-take, get_or-drop, get_or-append-add, get_or-replicate}
-use Rattle.std.proofs.lemmas.List.Elements.{All-map}
+use Rattle.std.proofs.lemmas.List.Elements.{All-cons, All-map, All-filter}
 use Rattle.std.proofs.lemmas.List.Sums.{AllPass-from_list_all}
 use Rattle.std.specs.Option.{unwrap_or}
 use Rattle.std.specs.List.{All, find, list_all}
+use Rattle.std.specs.Str.{bytes_eq}
 use Rattle.core_sums.specs.Places.{row_at}
 use Rattle.core_rows.specs.Names.{Record, field}
 use Rattle.core_rows.specs.Fields.{whole}
 use Rattle.core_case.specs.declared.kinds.RecordKind.{RecordKind}
-use Rattle.core_case.specs.declared.kinds.RecordKind.TheVariants.{Instrument, Limit, Scenario, Path}
+use Rattle.core_case.specs.declared.kinds.RecordKind.TheVariants.{Instrument, Limit, Tier, Scenario, Path}
 use Rattle.core_case.specs.declared.forms.Form.{Form}
 use Rattle.core_case.specs.declared.forms.Form.TheVariants.{Version, Name, Number}
-use Rattle.core_case.specs.Kinds.{is_kind, number_in}
-use Rattle.core_book.specs.Kept.{IsIn, AreIn}
-use Rattle.core_case.specs.Faults.{first_fault, form_fault, range_fault, horizon_in, last_in, of_kind, is_filed, filed, has_limit, has_path, is_complete}
-use Rattle.core_case.specs.Stated.{case_of, declared_names, instrument_of_record, numbers_from, limits_of, prices_of}
+use Rattle.core_case.specs.Kinds.{is_kind, number_in, cost_form}
+use Rattle.core_book.specs.Kept.{IsIn, IsTier, AreTiers, AreIn, ArePaths}
+use Rattle.core_case.specs.Faults.{first_fault, form_fault, range_fault, heading_of, of_kind, is_filed, filed, has_limit, has_path, is_complete}
+use Rattle.core_case.specs.Stated.{case_of, declared_names, instrument_of_record, numbers_from, limits_of, first_tier, tier_of_record, tiers_among, depth_of, prices_of}
 use Rattle.core_case.proofs.Filters.{All-filter_at, kept-at, stood-at, found-at, find-take}
-use Rattle.core_case.proofs.WholeRecords.{EndsAt, ends-at, before-end, in-form, number-between}
+use Rattle.core_case.proofs.WholeRecords.{EndsAt, ends-at, before-end, in-form, named-kept, number-between}
 
 -- the numbers of a record whose forms end with so many numbers of a range
 number-at : (low high : ℤ) (front : List Form) (n : ℕ) (r : Record) (k : ℕ) → k < n
@@ -115,10 +117,10 @@ limit-there rs e i within is =
 
 -- a limit record has an amount for each closing day
 sound-limit : (rs : List Record) → first_fault rs ≡ None → (i : ℕ) → i < length rs → is_kind Limit (row_at rs i) ≡ true
-    → AreIn (horizon_in rs) (pos 0) (pos (10 ^ 9)) (numbers_from 2 (row_at rs i))
+    → AreIn (heading_of rs).horizon (pos 0) (pos (10 ^ 9)) (numbers_from 2 (row_at rs i))
 sound-limit rs e i within is =
     let form = in-form rs e i within Limit is refl in
-    numbers-sound (pos 0) (pos (10 ^ 9)) (Name ∷ []) (horizon_in rs) (row_at rs i) form.count form.formed form.ranged
+    numbers-sound (pos 0) (pos (10 ^ 9)) (Name ∷ []) (heading_of rs).horizon (row_at rs i) form.count form.formed form.ranged
 
 -- what holds of each record of a kind holds of the one that is found by its key
 filed-holds : (P : Record → Type 0) (kind : RecordKind) (first second : List ℕ) (rs : List Record) → is_some (filed kind first second rs) ≡ true
@@ -128,11 +130,11 @@ filed-holds P kind first second rs there each =
     let is : is_kind kind (row_at rs found.0) ≡ true = (and_parts _ _ (and_parts _ _ found.2).0).0 in
     subst (λ (o : Option Record). P (unwrap_or o [])) (sym found.3) (each found.0 found.1 is)
 
--- so each instrument has an amount for each closing day
+-- so each instrument has a limit for each closing day
 limits-sound : (rs : List Record) → first_fault rs ≡ None → (i : ℕ) → i < length rs → is_kind Instrument (row_at rs i) ≡ true
-    → AreIn (horizon_in rs) (pos 0) (pos (10 ^ 9)) (limits_of rs (field (row_at rs i) 1))
+    → AreIn (heading_of rs).horizon (pos 0) (pos (10 ^ 9)) (limits_of rs (field (row_at rs i) 1))
 limits-sound rs e i within is =
-    filed-holds (λ r. AreIn (horizon_in rs) (pos 0) (pos (10 ^ 9)) (numbers_from 2 r)) Limit (field (row_at rs i) 1) [] rs
+    filed-holds (λ r. AreIn (heading_of rs).horizon (pos 0) (pos (10 ^ 9)) (numbers_from 2 r)) Limit (field (row_at rs i) 1) [] rs
     (limit-there rs e i within is) (sound-limit rs e)
 
 -- what holds of the name of each record of a kind holds of all names that records of the kind declare
@@ -140,13 +142,38 @@ All-declared : (P : List ℕ → Type 0) (kind : RecordKind) (rs : List Record)
     → ((i : ℕ) → i < length rs → is_kind kind (row_at rs i) ≡ true → P (field (row_at rs i) 1)) → All P (declared_names kind rs)
 All-declared P kind rs each = All-map P (λ r. field r 1) (of_kind kind rs) (All-filter_at (λ r. P (field r 1)) (is_kind kind) rs [] each)
 
--- so a case has an amount for each instrument and closing day
-pub limits-kept : (rs : List Record) → first_fault rs ≡ None
-    → (length (case_of rs).limits ≡ length (case_of rs).instruments) × All (AreIn (case_of rs).horizon (pos 0) (pos (10 ^ 9))) (case_of rs).limits
-limits-kept rs e = (
-  length-map (declared_names Instrument rs) (limits_of rs) ∙ length-map (of_kind Instrument rs) (λ r. field r 1) ∙ sym (length-map (of_kind Instrument rs) instrument_of_record),
-  All-map (AreIn (horizon_in rs) (pos 0) (pos (10 ^ 9))) (limits_of rs) (declared_names Instrument rs)
-      (All-declared (λ name. AreIn (horizon_in rs) (pos 0) (pos (10 ^ 9)) (limits_of rs name)) Instrument rs (limits-sound rs e)),
+-- a tier record has a cost, and an amount for each closing day
+sound-tier : (rs : List Record) → first_fault rs ≡ None → (i : ℕ) → i < length rs → is_kind Tier (row_at rs i) ≡ true
+    → IsTier (heading_of rs).horizon (tier_of_record (row_at rs i))
+sound-tier rs e i within is =
+    let form = in-form rs e i within Tier is refl in record {
+      cost = number-between (pos 0) (pos (10 ^ 12)) (row_at rs i) 2 (form.formed 1 (omega arith)) (form.ranged 1 (omega arith));
+      limits = numbers-sound (pos 0) (pos (10 ^ 9)) (Name ∷ cost_form ∷ []) (heading_of rs).horizon (row_at rs i) form.count form.formed form.ranged;
+    }
+
+-- so each instrument has one tier to four, of which the first costs nothing
+tiers-sound : (rs : List Record) → first_fault rs ≡ None → (i : ℕ) → i < length rs → is_kind Instrument (row_at rs i) ≡ true
+    → AreTiers (heading_of rs).horizon (depth_of rs (field (row_at rs i) 1))
+tiers-sound rs e i within is =
+    let name : List ℕ = field (row_at rs i) 1 in
+    let few : length (filter (λ r. bytes_eq (field r 1) name) (of_kind Tier rs)) ≤ 3 = named-kept Tier 3 refl (λ r. refl) name rs e in
+    let size : length (tiers_among (of_kind Tier rs) name) ≡ length (filter (λ r. bytes_eq (field r 1) name) (of_kind Tier rs)) = length-map _ tier_of_record in record {
+      count = (omega arith, omega (arith, few, size));
+      free = refl;
+      each = All-cons (IsTier (heading_of rs).horizon) (first_tier rs name) (tiers_among (of_kind Tier rs) name)
+          (record { cost = (omega (arith, ints), omega (arith, ints)); limits = limits-sound rs e i within is })
+          (All-map (IsTier (heading_of rs).horizon) tier_of_record (filter (λ r. bytes_eq (field r 1) name) (of_kind Tier rs))
+          (All-filter (λ r. bytes_eq (field r 1) name) (λ r. IsTier (heading_of rs).horizon (tier_of_record r)) (of_kind Tier rs)
+          (All-filter_at (λ r. IsTier (heading_of rs).horizon (tier_of_record r)) (is_kind Tier) rs [] (sound-tier rs e))));
+    }
+
+-- so a case has tiers for each instrument
+pub depth-kept : (rs : List Record) → first_fault rs ≡ None
+    → (length (case_of rs).depth ≡ length (case_of rs).instruments) × All (AreTiers (case_of rs).horizon) (case_of rs).depth
+depth-kept rs e = (
+  length-map (declared_names Instrument rs) (depth_of rs) ∙ length-map (of_kind Instrument rs) (λ r. field r 1) ∙ sym (length-map (of_kind Instrument rs) instrument_of_record),
+  All-map (AreTiers (heading_of rs).horizon) (depth_of rs) (declared_names Instrument rs)
+      (All-declared (λ name. AreTiers (heading_of rs).horizon (depth_of rs name)) Instrument rs (tiers-sound rs e)),
 )
 
 -- each scenario and instrument has a path
@@ -164,40 +191,36 @@ path-there rs e k i of_scenario of_instrument is too =
 
 -- a path record has a price for each house day
 sound-path : (rs : List Record) → first_fault rs ≡ None → (i : ℕ) → i < length rs → is_kind Path (row_at rs i) ≡ true
-    → AreIn (suc (last_in rs)) (negsuc 999999999999) (pos (10 ^ 12)) (numbers_from 3 (row_at rs i))
+    → AreIn (suc (heading_of rs).last) (negsuc 999999999999) (pos (10 ^ 12)) (numbers_from 3 (row_at rs i))
 sound-path rs e i within is =
     let form = in-form rs e i within Path is refl in
-    numbers-sound (negsuc 999999999999) (pos (10 ^ 12)) (Name ∷ Name ∷ []) (suc (last_in rs)) (row_at rs i) form.count form.formed form.ranged
+    numbers-sound (negsuc 999999999999) (pos (10 ^ 12)) (Name ∷ Name ∷ []) (suc (heading_of rs).last) (row_at rs i) form.count form.formed form.ranged
 
 -- so each scenario and instrument has a price for each house day
 prices-sound : (rs : List Record) → first_fault rs ≡ None → (k : ℕ) → k < length rs → is_kind Scenario (row_at rs k) ≡ true
     → (i : ℕ) → i < length rs → is_kind Instrument (row_at rs i) ≡ true
-    → AreIn (suc (last_in rs)) (negsuc 999999999999) (pos (10 ^ 12)) (prices_of rs (field (row_at rs k) 1) (field (row_at rs i) 1))
+    → AreIn (suc (heading_of rs).last) (negsuc 999999999999) (pos (10 ^ 12)) (prices_of rs (field (row_at rs k) 1) (field (row_at rs i) 1))
 prices-sound rs e k of_scenario is i of_instrument too =
-    filed-holds (λ r. AreIn (suc (last_in rs)) (negsuc 999999999999) (pos (10 ^ 12)) (numbers_from 3 r)) Path (field (row_at rs k) 1) (field (row_at rs i) 1) rs
+    filed-holds (λ r. AreIn (suc (heading_of rs).last) (negsuc 999999999999) (pos (10 ^ 12)) (numbers_from 3 r)) Path (field (row_at rs k) 1) (field (row_at rs i) 1) rs
     (path-there rs e k i of_scenario of_instrument is too) (sound-path rs e)
-
--- the paths of a scenario
-abbrev ArePaths : List Record → List (List ℤ) → Type 0
-ArePaths rs paths = (length paths ≡ length (case_of rs).instruments) × All (AreIn (suc (last_in rs)) (negsuc 999999999999) (pos (10 ^ 12))) paths
 
 -- so each scenario has a path for each instrument
 paths-sound : (rs : List Record) → first_fault rs ≡ None → (k : ℕ) → k < length rs → is_kind Scenario (row_at rs k) ≡ true
-    → ArePaths rs (map (prices_of rs (field (row_at rs k) 1)) (declared_names Instrument rs))
+    → ArePaths (case_of rs) (map (prices_of rs (field (row_at rs k) 1)) (declared_names Instrument rs))
 paths-sound rs e k within is = (
   length-map (declared_names Instrument rs) (prices_of rs (field (row_at rs k) 1)) ∙ length-map (of_kind Instrument rs) (λ r. field r 1)
       ∙ sym (length-map (of_kind Instrument rs) instrument_of_record),
-  All-map (AreIn (suc (last_in rs)) (negsuc 999999999999) (pos (10 ^ 12))) (prices_of rs (field (row_at rs k) 1)) (declared_names Instrument rs)
-      (All-declared (λ name. AreIn (suc (last_in rs)) (negsuc 999999999999) (pos (10 ^ 12)) (prices_of rs (field (row_at rs k) 1) name)) Instrument rs
+  All-map (AreIn (suc (heading_of rs).last) (negsuc 999999999999) (pos (10 ^ 12))) (prices_of rs (field (row_at rs k) 1)) (declared_names Instrument rs)
+      (All-declared (λ name. AreIn (suc (heading_of rs).last) (negsuc 999999999999) (pos (10 ^ 12)) (prices_of rs (field (row_at rs k) 1) name)) Instrument rs
       (prices-sound rs e k within is)),
 )
 
 -- so a case has a price for each scenario, instrument and house day
 pub prices-kept : (rs : List Record) → first_fault rs ≡ None
     → (length (case_of rs).prices ≡ length (case_of rs).scenarios)
-    × All (λ paths. (length paths ≡ length (case_of rs).instruments) × All (AreIn (suc (case_of rs).last) (negsuc 999999999999) (pos (10 ^ 12))) paths) (case_of rs).prices
+    × All (ArePaths (case_of rs)) (case_of rs).prices
 prices-kept rs e = (
   length-map (declared_names Scenario rs) (λ k. map (prices_of rs k) (declared_names Instrument rs)),
-  All-map (ArePaths rs) (λ k. map (prices_of rs k) (declared_names Instrument rs)) (declared_names Scenario rs)
-      (All-declared (λ name. ArePaths rs (map (prices_of rs name) (declared_names Instrument rs))) Scenario rs (paths-sound rs e)),
+  All-map (ArePaths (case_of rs)) (λ k. map (prices_of rs k) (declared_names Instrument rs)) (declared_names Scenario rs)
+      (All-declared (λ name. ArePaths (case_of rs) (map (prices_of rs name) (declared_names Instrument rs))) Scenario rs (paths-sound rs e)),
 )

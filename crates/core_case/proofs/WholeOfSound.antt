@@ -6,7 +6,7 @@ use Rattle.core_book.specs.Kept.{IsCase}
 use Rattle.core_case.specs.Stated.{case_of}
 use Rattle.core_case.specs.Whole.{IsWhole}
 use Rattle.core_case.proofs.WholeDays.{start-kept, horizon-kept, last-kept, holidays-kept, cash-kept}
-use Rattle.core_case.proofs.WholeLists.{some-scenario, limits-kept, prices-kept}
+use Rattle.core_case.proofs.WholeLists.{some-scenario, depth-kept, prices-kept}
 use Rattle.core_case.proofs.NamesKept.{instruments-kept, markets-kept, pools-kept, members-kept, few-scenarios, scenario-names, scenarios-differ, market-names-differ}
 use Rattle.core_case.proofs.LinesKept.{lines-kept}
 
@@ -19,7 +19,7 @@ case-of-sound rs e = record {
   holidays = holidays-kept rs e;
   instruments = instruments-kept rs e;
   markets = markets-kept rs e;
-  limits = limits-kept rs e;
+  depth = depth-kept rs e;
   pools = pools-kept rs e;
   members = members-kept rs e;
   scenarios = (some-scenario rs e, few-scenarios rs e, scenario-names rs e, scenarios-differ rs e);

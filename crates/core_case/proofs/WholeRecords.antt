@@ -1,61 +1,32 @@
 -- The records of a sound file: the kinds that they are of, where they stand, the forms of their fields, how many there are.
-use Rattle.std.proofs.Common.{◌≡◌, refl, sym, ◌∙◌, ap, subst, ℕ, zero, suc, ◌+◌, ◌<◌, ◌≤◌, ◌⊎◌, inl, inr, arith, ℤ, pos, negsuc, int_le, unsigned_abs, true, false, cond, List, [], ◌∷◌, ◌++◌, length, take, get_or, Option, Some, None, is_some}
+use Rattle.std.proofs.Common.{◌≡◌, refl, sym, ◌∙◌, ap, subst, ℕ, zero, suc, ◌+◌, ◌<◌, ◌≤◌, ◌⊎◌, inl, inr, arith, ℤ, pos, negsuc, int_le, unsigned_abs, true, false, cond, ◌&&◌, List, [], ◌∷◌, ◌++◌, length, filter, take, get_or, Option, Some, None, is_some}
 use Rattle.std.proofs.lemmas.Int.{ints}
 use Rattle.std.proofs.lemmas.Bool.{and_parts, and_from, ltb-true, cases_Bool, cases_order}
 use Rattle.std.proofs.lemmas.List.{get_or-take, length-take-le}
 use Rattle.std.proofs.lemmas.Slice.Eq.{bytes_eq-Decides}
 use Rattle.std.specs.Option.{unwrap_or}
-use Rattle.std.specs.List.{find}
 use Rattle.std.specs.Str.{bytes_eq}
 use Rattle.core_sums.specs.Places.{row_at}
 use Rattle.core_rows.specs.Names.{Record, field}
 use Rattle.core_rows.specs.Fields.{whole}
 use Rattle.core_case.specs.declared.kinds.RecordKind.{RecordKind}
-use Rattle.core_case.specs.declared.kinds.RecordKind.TheVariants.{Core, House, Market, Holiday, Instrument, Limit, Pool, Member, Scenario, Path, Position, Collateral, Cash, End}
+use Rattle.core_case.specs.declared.kinds.RecordKind.TheVariants.{Core, House, End}
 use Rattle.core_case.specs.declared.forms.Form.TheVariants.{Version, Number}
-use Rattle.core_case.specs.Kinds.{is_kind, kind_of, kinds, word_of, forms, number_in, natural_in, most_records}
+use Rattle.core_case.specs.Kinds.{HeadingView, is_kind, forms, number_in, natural_in, most_records}
 use Rattle.core_book.specs.Kept.{IsIn}
-use Rattle.core_case.specs.Faults.{first_fault, form_fault, range_fault, is_between, horizon_in, last_in, is_core_or_house, is_house, order_step, group_of, is_in_group, is_below, count_in, has_room, is_filed, is_complete}
+use Rattle.core_case.specs.Faults.{first_fault, form_fault, range_fault, is_between, heading_of, is_core_or_house, is_house, of_kind, order_step, group_of, is_in_group, is_below, count_in, has_room, is_filed, is_complete}
 use Rattle.core_case.proofs.SoundRecord.{SoundRecord, sound-at, by-one-more, ended, first-core}
 use Rattle.core_rows.proofs.FirstStep.{holds-from_none}
-use Rattle.core_case.proofs.Filters.{length-filter_push, found-at, none-before}
-
--- the first kind with the word of a kind is this kind
-kind-of-word : (kind : RecordKind) → find (λ k. bytes_eq (word_of kind) (word_of k)) kinds ≡ Some kind
-kind-of-word Core = refl
-kind-of-word House = refl
-kind-of-word Market = refl
-kind-of-word Holiday = refl
-kind-of-word Instrument = refl
-kind-of-word Limit = refl
-kind-of-word Pool = refl
-kind-of-word Member = refl
-kind-of-word Scenario = refl
-kind-of-word Path = refl
-kind-of-word Position = refl
-kind-of-word Collateral = refl
-kind-of-word Cash = refl
-kind-of-word End = refl
-
--- so a record with the word of a kind is of this kind
-pub kind-of-is : (kind : RecordKind) (r : Record) → is_kind kind r ≡ true → kind_of r ≡ Some kind
-kind-of-is kind r is =
-    let word : field r 0 ≡ word_of kind = (bytes_eq-Decides (field r 0) (word_of kind)).0 is in
-    ap (λ w. find (λ k. bytes_eq w (word_of k)) kinds) word ∙ kind-of-word kind
-
--- and of no other
-pub same-kind : (kind other : RecordKind) (r : Record) → is_kind kind r ≡ true → is_kind other r ≡ true → kind ≡ other
-same-kind kind other r is too =
-    let one : kind_of r ≡ Some kind = kind-of-is kind r is in
-    let two : kind_of r ≡ Some other = kind-of-is other r too in
-    cc
+use Rattle.core_rows.proofs.NamePlaces.{bytes_eq-sym}
+use Rattle.core_case.proofs.FiledKeys.{one-kind}
+use Rattle.core_case.proofs.Filters.{filter-filter, length-filter_push, found-at, none-before}
 
 -- a record of a sound file is sound as a record of its kind
 pub sound-of : (rs : List Record) → first_fault rs ≡ None → (i : ℕ) → i < length rs → (kind : RecordKind) → is_kind kind (row_at rs i) ≡ true
     → SoundRecord (take i rs) (row_at rs i) kind
 sound-of rs e i within kind is =
     let sound = sound-at rs e i within in
-    subst (λ (k : RecordKind). SoundRecord (take i rs) (row_at rs i) k) (same-kind sound.0 kind (row_at rs i) sound.1.of_kind is) sound.1
+    subst (λ (k : RecordKind). SoundRecord (take i rs) (row_at rs i) k) (one-kind sound.0 kind (row_at rs i) sound.1.of_kind is) sound.1
 
 -- a kind that passes the test for `house` is this kind
 house-only : (kind : RecordKind) → is_house kind ≡ true → kind ≡ House
@@ -74,31 +45,34 @@ house-sound rs e within =
 pub later-place : (rs : List Record) → first_fault rs ≡ None → (i : ℕ) → i < length rs → (kind : RecordKind) → is_kind kind (row_at rs i) ≡ true
     → is_core_or_house kind ≡ false → 2 ≤ i
 later-place rs e zero within kind is other =
-    let core : kind ≡ Core = same-kind kind Core (row_at rs 0) is (first-core rs e) in
+    let core : kind ≡ Core = one-kind kind Core (row_at rs 0) is (first-core rs e) in
     let wrong : true ≡ false = subst (λ (k : RecordKind). is_core_or_house k ≡ false) core other in
     absurd (cc)
 later-place rs e (suc zero) within kind is other =
     let sound = house-sound rs e within in
-    let house : kind ≡ House = same-kind kind House (row_at rs 1) is sound.of_kind in
+    let house : kind ≡ House = one-kind kind House (row_at rs 1) is sound.of_kind in
     let wrong : true ≡ false = subst (λ (k : RecordKind). is_core_or_house k ≡ false) house other in
     absurd (cc)
 later-place rs e (suc (suc i)) within kind is other = omega arith
 
--- the fields of a record have the forms of its kind, where the horizon and the last house day are known
-pub record InForm (horizon last : ℕ) (r : Record) (kind : RecordKind) : Type 0 where
-  pub count : length r ≡ suc (length (forms horizon last r kind))
-  pub formed : (n : ℕ) → n < length (forms horizon last r kind) → form_fault (get_or (forms horizon last r kind) n Version) (field r (suc n)) ≡ None
-  pub ranged : (n : ℕ) → n < length (forms horizon last r kind) → range_fault (get_or (forms horizon last r kind) n Version) (field r (suc n)) ≡ None
+-- the fields of a record have the forms of its kind, in a case with this heading
+pub record InForm (h : HeadingView) (r : Record) (kind : RecordKind) : Type 0 where
+  pub count : length r ≡ suc (length (forms h r kind))
+  pub formed : (n : ℕ) → n < length (forms h r kind) → form_fault (get_or (forms h r kind) n Version) (field r (suc n)) ≡ None
+  pub ranged : (n : ℕ) → n < length (forms h r kind) → range_fault (get_or (forms h r kind) n Version) (field r (suc n)) ≡ None
 
--- in a sound file they have these forms, where the horizon and the last house day are those of the file
+-- in a sound file they have these forms, where the heading is that of the file
 pub in-form : (rs : List Record) → first_fault rs ≡ None → (i : ℕ) → i < length rs → (kind : RecordKind) → is_kind kind (row_at rs i) ≡ true
-    → is_core_or_house kind ≡ false → InForm (horizon_in rs) (last_in rs) (row_at rs i) kind
+    → is_core_or_house kind ≡ false → InForm (heading_of rs) (row_at rs i) kind
 in-form rs e i within kind is other =
     let sound = sound-of rs e i within kind is in
     let place : 2 ≤ i = later-place rs e i within kind is other in
+    let core : row_at (take i rs) 0 ≡ row_at rs 0 = get_or-take i rs 0 [] (omega (arith, place)) in
     let house : row_at (take i rs) 1 ≡ row_at rs 1 = get_or-take i rs 1 [] (omega (arith, place)) in
-    let here : InForm (horizon_in (take i rs)) (last_in (take i rs)) (row_at rs i) kind = record { count = sound.count; formed = sound.formed; ranged = sound.ranged } in
-    subst (λ (r : Record). InForm (natural_in r 2) (natural_in r 3) (row_at rs i) kind) house here
+    let here : InForm (heading_of (take i rs)) (row_at rs i) kind = record { count = sound.count; formed = sound.formed; ranged = sound.ranged } in
+    let state : Record → Record → HeadingView = λ x y. record { version = natural_in x 1; horizon = natural_in y 2; last = natural_in y 3 } in
+    subst (λ (x : Record). InForm (state x (row_at rs 1)) (row_at rs i) kind) core
+    (subst (λ (y : Record). InForm (state (row_at (take i rs) 0) y) (row_at rs i) kind) house here)
 
 -- a number or a date that is there and in its range lies there
 pub some-between : (low high : ℤ) (o : Option ℤ) → is_some o ≡ true → is_between low high o ≡ true → IsIn low high (unwrap_or o (pos 0))
@@ -136,7 +110,7 @@ count-kept kind most limited group rs e = by-one-more (λ xs. count_in kind grou
     split earlier r k few sound (inl counted) =
         let parts = and_parts (is_kind kind r) (bytes_eq group (group_of kind r)) counted in
         let same : group ≡ group_of kind r = (bytes_eq-Decides group (group_of kind r)).0 parts.1 in
-        let this : k ≡ kind = same-kind k kind r sound.of_kind parts.0 in
+        let this : k ≡ kind = one-kind k kind r sound.of_kind parts.0 in
         let room : has_room earlier r kind ≡ true = subst (λ (x : RecordKind). has_room earlier r x ≡ true) this sound.room in
         let less : count_in kind (group_of kind r) earlier < most = is-below-most (count_in kind (group_of kind r) earlier) most (most_records kind) limited room in
         let here : count_in kind group earlier < most = subst (λ (g : List ℕ). count_in kind g earlier < most) (sym same) less in
@@ -146,6 +120,15 @@ count-kept kind most limited group rs e = by-one-more (λ xs. count_in kind grou
     more earlier r k few sound =
         subst (λ (n : ℕ). n ≤ most) (sym (length-filter_push (is_in_group kind group) earlier r))
         (split earlier r k few sound (cases_Bool (is_in_group kind group r)))
+
+-- where records of a kind are counted by the name in their first field, a sound file has no more of them of a name
+pub named-kept : (kind : RecordKind) (most : ℕ) → most_records kind ≡ Some most → ((r : Record) → group_of kind r ≡ field r 1) → (name : List ℕ) → (rs : List Record)
+    → first_fault rs ≡ None → length (filter (λ r. bytes_eq (field r 1) name) (of_kind kind rs)) ≤ most
+named-kept kind most limited by_name name rs e =
+    let same : filter (λ r. bytes_eq (field r 1) name) (of_kind kind rs) ≡ filter (is_in_group kind name) rs =
+    filter-filter (is_kind kind) (λ r. bytes_eq (field r 1) name) (is_in_group kind name)
+    (λ r. ap (λ b. is_kind kind r && b) (ap (bytes_eq name) (by_name r) ∙ bytes_eq-sym name (field r 1))) rs in
+    subst (λ (n : ℕ). n ≤ most) (sym (ap length same)) (count-kept kind most limited name rs e)
 
 -- where `end` stands, and that the records before it are complete
 pub record EndsAt (rs : List Record) (place : ℕ) : Type 0 where
@@ -172,7 +155,7 @@ before-end rs e place ends i within kind is other = split (cases_order i place)
     split : (i ≡ place) ⊎ ((i < place) ⊎ (place < i)) → i < place
     split (inl here) =
         let end : is_kind End (row_at rs i) ≡ true = ap (λ k. is_kind End (row_at rs k)) here ∙ ends.is_end in
-        absurd (other (same-kind kind End (row_at rs i) is end))
+        absurd (other (one-kind kind End (row_at rs i) is end))
     split (inr (inl less)) = less
     split (inr (inr more)) =
         let sound = sound-of rs e i within kind is in

@@ -10,23 +10,24 @@ use Rattle.core_rows.specs.Names.{Record, field}
 use Rattle.core_rows.specs.Steps.{fault_unless, fields_fault, first_of}
 use Rattle.core_rows.specs.Fields.{whole, name_of, day_of}
 use Rattle.core_case.specs.declared.kinds.RecordKind.{RecordKind}
-use Rattle.core_case.specs.declared.kinds.RecordKind.TheVariants.{Core, House, Market, Holiday, Instrument, Limit, Scenario, Path, Position, Collateral, End}
+use Rattle.core_case.specs.declared.kinds.RecordKind.TheVariants.{Core, House, Market, Holiday, Instrument, Limit, Tier, Scenario, Path, Position, Collateral, End}
 use Rattle.core_case.specs.declared.forms.Form.{Form}
 use Rattle.core_case.specs.declared.forms.Form.TheVariants.{Version, Name, InstrumentKind, Number, StartDate, HolidayDate}
 use Rattle.core_case.specs.declared.faults.RecordFault.{RecordFault}
-use Rattle.core_case.specs.declared.faults.RecordFault.TheVariants.{FirstNotCore, NotVersionOne, UnknownKind, OutOfOrder, FieldCount, NotAName, NotANumber, NotADate, NotAnInstrumentKind, OutOfRange, Undeclared, Repeated, TooMany, CollateralOfFuture, Incomplete, AfterEnd, EndMissing}
-use Rattle.core_case.specs.Kinds.{kind_of, is_kind, forms, references, key_length, most_records, number_in, natural_in}
+use Rattle.core_case.specs.declared.faults.RecordFault.TheVariants.{FirstNotCore, UnknownVersion, UnknownKind, OutOfOrder, FieldCount, NotAName, NotANumber, NotADate, NotAnInstrumentKind, OutOfRange, Undeclared, Repeated, TooMany, CollateralOfFuture, ExpiryOfSecurity, Incomplete, AfterEnd, EndMissing}
+use Rattle.core_case.specs.Kinds.{kind_of, is_kind, HeadingView, forms, references, key_length, most_records, number_in, natural_in}
 
 -- the records of a kind
 abbrev pub of_kind : RecordKind → List Record → List Record
 of_kind kind rs = filter (is_kind kind) rs
 
--- the horizon and the last house day, of the second record, which is `house`
-abbrev pub horizon_in : List Record → ℕ
-horizon_in rs = natural_in (row_at rs 1) 2
-
-abbrev pub last_in : List Record → ℕ
-last_in rs = natural_in (row_at rs 1) 3
+-- what the first record, which is `core`, and the second, which is `house`, state
+abbrev pub heading_of : List Record → HeadingView
+heading_of rs = record {
+  version = natural_in (row_at rs 0) 1;
+  horizon = natural_in (row_at rs 1) 2;
+  last = natural_in (row_at rs 1) 3;
+}
 
 -- The key of a record: two words, the second or both of them empty where the kind's key is shorter.
 abbrev pub key_of_length : ℕ → Record → List ℕ × List ℕ
@@ -52,10 +53,10 @@ has_ended rs = is_some (filed End [] [] rs)
 abbrev pub end_before : List Record → Option RecordFault
 end_before earlier = fault_unless (not (has_ended earlier)) AfterEnd
 
--- step 2: the kind
-abbrev pub kind_step : ℕ → Record → Option RecordFault
-kind_step zero r = fault_unless (is_kind Core r) FirstNotCore
-kind_step (suc n) r = fault_unless (is_some (kind_of r)) UnknownKind
+-- step 2: the kind, which is one of the version
+abbrev pub kind_step : ℕ → ℕ → Record → Option RecordFault
+kind_step zero version r = fault_unless (is_kind Core r) FirstNotCore
+kind_step (suc n) version r = fault_unless (is_some (kind_of version r)) UnknownKind
 
 -- step 3: the first record is `core`, the second and no other `house`
 abbrev pub is_core_or_house : RecordKind → Bool
@@ -73,11 +74,14 @@ order_step (suc zero) kind = fault_unless (is_house kind) OutOfOrder
 order_step (suc (suc n)) kind = fault_unless (not (is_core_or_house kind)) OutOfOrder
 
 -- step 4: the number of fields, then step 5: the form of each field, from left to right
+abbrev pub is_version : List ℕ → Bool
+is_version word = bytes_eq word (codes "1") || bytes_eq word (codes "2") || bytes_eq word (codes "3")
+
 abbrev pub is_instrument_kind : List ℕ → Bool
 is_instrument_kind word = bytes_eq word (codes "future") || bytes_eq word (codes "security")
 
 abbrev pub form_fault : Form → List ℕ → Option RecordFault
-form_fault Version word = fault_unless (bytes_eq word (codes "1")) NotVersionOne
+form_fault Version word = fault_unless (is_version word) UnknownVersion
 form_fault Name word = fault_unless (is_some (name_of word)) NotAName
 form_fault InstrumentKind word = fault_unless (is_instrument_kind word) NotAnInstrumentKind
 form_fault (Number low high) word = fault_unless (is_some (whole word)) NotANumber
@@ -135,15 +139,20 @@ is_declared earlier kind name = (is_market kind && bytes_eq name house_name) || 
 abbrev pub name_step : List Record → Record → ℕ × RecordKind → Option RecordFault
 name_step earlier r reference = fault_unless (is_declared earlier reference.1 (field r reference.0)) Undeclared
 
--- step 8: collateral is of a security
+-- step 8: collateral is of a security, and an expiry is of a future; an instrument without the field has none
 abbrev pub is_future : Record → Bool
 is_future r = bytes_eq (field r 2) (codes "future")
+
+-- whether an instrument's record has an expiry
+abbrev pub has_expiry : Record → Bool
+has_expiry r = nat_lt 0 (natural_in r 7)
 
 abbrev pub names_future : List Record → List ℕ → Bool
 names_future earlier name = is_future (unwrap_or (filed Instrument name [] earlier) [])
 
 abbrev pub security_step : List Record → Record → RecordKind → Option RecordFault
 security_step earlier r Collateral = fault_unless (not (names_future earlier (field r 1))) CollateralOfFuture
+security_step earlier r Instrument = fault_unless (is_future r || not (has_expiry r)) ExpiryOfSecurity
 security_step earlier r _ = None
 
 -- step 9: no earlier record of the kind has the same key
@@ -155,9 +164,10 @@ repeats earlier r kind =
     (is_market kind && bytes_eq (field r 1) house_name)
     || (is_keyed kind && is_some (filed kind (key_of kind r).0 (key_of kind r).1 earlier))
 
--- step 10: how many records of a kind a case takes; holidays are counted by market
+-- step 10: how many records of a kind a case takes; holidays are counted by market, and tiers by instrument
 abbrev pub group_of : RecordKind → Record → List ℕ
 group_of Holiday r = field r 1
+group_of Tier r = field r 1
 group_of _ r = []
 
 abbrev pub is_in_group : RecordKind → List ℕ → Record → Bool
@@ -205,11 +215,16 @@ book_fault earlier r kind =
 abbrev pub later_fault : List Record → Record → Option RecordKind → Option RecordFault
 later_fault earlier r None = None
 later_fault earlier r (Some kind) =
-    option_or (own_fault (length earlier) (forms (horizon_in earlier) (last_in earlier) r kind) r kind) (book_fault earlier r kind)
+    option_or (own_fault (length earlier) (forms (heading_of earlier) r kind) r kind) (book_fault earlier r kind)
 
 -- the fault of a record, none of a sound one
 abbrev pub fault_of : List Record → Record → Option RecordFault
-fault_of earlier r = first_of (end_before earlier ∷ kind_step (length earlier) r ∷ later_fault earlier r (kind_of r) ∷ [])
+fault_of earlier r =
+    first_of
+    (end_before earlier
+    ∷ kind_step (length earlier) (heading_of earlier).version r
+    ∷ later_fault earlier r (kind_of (heading_of earlier).version r)
+    ∷ [])
 
 -- A faulty record by its number, from 1, and its fault.
 abbrev pub Faulty : Type 0

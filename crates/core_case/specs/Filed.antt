@@ -13,4 +13,4 @@ records_in a = map (λ r. r.now) a.rows.items
 
 pub record Holds (same_key : Key → Key → Bool) (same_group : Group → Group → Bool) (a : Inside) (rs : List Record) : Type 0 where
   pub filed_as : (k : Key) → option_map (λ r. r.now) (get same_key a.filed k) ≡ filed k.kind k.first.now k.second.now rs
-  pub counted : (g : Group) → unwrap_or (get same_group a.counts g) 0 ≡ count_in g.kind g.market.now rs
+  pub counted : (g : Group) → unwrap_or (get same_group a.counts g) 0 ≡ count_in g.kind g.name.now rs

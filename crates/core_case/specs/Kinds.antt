@@ -1,13 +1,14 @@
 -- The kinds of records of a case, one row a kind: its word, the fields that it has after it, the names that it refers
 -- to, its key, and how many records of it a case takes.
-use Rattle.std.specs.Prelude.{ℕ, suc, ◌-◌, ◌^◌, List, [], ◌∷◌, codes, replicate, ℤ, pos, negsuc, Bool, Option, Some, None, unsigned_abs}
+use Rattle.std.specs.Prelude.{ℕ, suc, ◌-◌, ◌^◌, List, [], ◌∷◌, codes, replicate, ℤ, pos, negsuc, Bool, true, nat_le, ◌&&◌, if◌then◌else◌, Option, Some, None, unsigned_abs}
 use Rattle.std.specs.List.{find}
 use Rattle.std.specs.Option.{unwrap_or}
 use Rattle.std.specs.Str.{bytes_eq}
 use Rattle.core_rows.specs.Names.{Record, field}
 use Rattle.core_rows.specs.Fields.{whole}
 use Rattle.core_case.specs.declared.kinds.RecordKind.{RecordKind}
-use Rattle.core_case.specs.declared.kinds.RecordKind.TheVariants.{Core, House, Market, Holiday, Instrument, Limit, Pool, Member, Scenario, Path, Position, Collateral, Cash, End}
+use Rattle.core_case.specs.declared.kinds.RecordKind.TheVariants.{Core, House, Market, Holiday, Instrument, Limit, Tier, Pool, Member, Scenario, Path, Position, Collateral, Cash, End}
+use Rattle.core_case.specs.declared.heading.Heading.{Heading}
 use Rattle.core_case.specs.declared.forms.Form.{Form}
 use Rattle.core_case.specs.declared.forms.Form.TheVariants.{Version, Name, InstrumentKind, Number, StartDate, HolidayDate}
 
@@ -19,6 +20,7 @@ word_of Market = codes "market"
 word_of Holiday = codes "holiday"
 word_of Instrument = codes "instr"
 word_of Limit = codes "limit"
+word_of Tier = codes "tier"
 word_of Pool = codes "pool"
 word_of Member = codes "member"
 word_of Scenario = codes "scenario"
@@ -29,15 +31,22 @@ word_of Cash = codes "cash"
 word_of End = codes "end"
 
 abbrev pub kinds : List RecordKind
-kinds = Core ∷ House ∷ Market ∷ Holiday ∷ Instrument ∷ Limit ∷ Pool ∷ Member ∷ Scenario ∷ Path ∷ Position ∷ Collateral ∷ Cash ∷ End ∷ []
+kinds =
+    Core ∷ House ∷ Market ∷ Holiday ∷ Instrument ∷ Limit ∷ Tier ∷ Pool ∷ Member ∷ Scenario ∷ Path
+    ∷ Position ∷ Collateral ∷ Cash ∷ End ∷ []
 
 -- whether a record is of a kind
 abbrev pub is_kind : RecordKind → Record → Bool
 is_kind kind r = bytes_eq (field r 0) (word_of kind)
 
--- the kind of a record
-abbrev pub kind_of : Record → Option RecordKind
-kind_of r = find (λ kind. is_kind kind r) kinds
+-- whether a version of the format has a kind: tiers come with version 3
+abbrev pub has_kind : ℕ → RecordKind → Bool
+has_kind version Tier = nat_le 3 version
+has_kind version _ = true
+
+-- the kind of a record in a version
+abbrev pub kind_of : ℕ → Record → Option RecordKind
+kind_of version r = find (λ kind. has_kind version kind && is_kind kind r) kinds
 
 -- the number in a field, 0 where it writes none
 abbrev pub number_in : Record → ℕ → ℤ
@@ -50,26 +59,44 @@ natural_in r n = unsigned_abs (number_in r n)
 abbrev pub amount_form : Form
 amount_form = Number (pos 0) (pos (10 ^ 9))
 
+abbrev pub cost_form : Form
+cost_form = Number (pos 0) (pos (10 ^ 12))
+
 abbrev pub price_form : Form
 price_form = Number (negsuc (10 ^ 12 - 1)) (pos (10 ^ 12))
 
--- the fields after the kind, of the record r in a case of so many closing days and house days
-abbrev pub forms : ℕ → ℕ → Record → RecordKind → List Form
-forms horizon last r Core = Version ∷ []
-forms horizon last r House = StartDate ∷ Number (pos 1) (pos 20) ∷ Number (number_in r 2) (pos 40) ∷ []
-forms horizon last r Market = Name ∷ []
-forms horizon last r Holiday = Name ∷ HolidayDate ∷ []
-forms horizon last r Instrument =
-    Name ∷ InstrumentKind ∷ Name ∷ Number (pos 1) (pos (10 ^ 6)) ∷ Number (pos 1) (pos 20) ∷ Number (pos 0) (pos 10) ∷ []
-forms horizon last r Limit = Name ∷ replicate horizon amount_form
-forms horizon last r Pool = Name ∷ amount_form ∷ []
-forms horizon last r Member = Name ∷ Name ∷ Number (pos 1) (pos (10 ^ 6)) ∷ []
-forms horizon last r Scenario = Name ∷ []
-forms horizon last r Path = Name ∷ Name ∷ replicate (suc last) price_form
-forms horizon last r Position = Name ∷ Number (negsuc (10 ^ 9 - 1)) (pos (10 ^ 9)) ∷ []
-forms horizon last r Collateral = Name ∷ Number (pos 1) (pos (10 ^ 9)) ∷ []
-forms horizon last r Cash = Number (pos 0) (pos last) ∷ Number (negsuc (10 ^ 15 - 1)) (pos (10 ^ 15)) ∷ []
-forms horizon last r End = []
+-- What the first two records of a case state: the version, the last closing day and the last house day.
+pub record HeadingView : Type 0 where
+  pub version : ℕ
+  pub horizon : ℕ
+  pub last : ℕ
+
+abbrev pub heading_view : Heading → HeadingView
+heading_view h = record { version = h.version; horizon = h.horizon; last = h.last }
+
+-- from version 2 on an instrument has an expiry, where 0 says that there is none
+abbrev pub expiry_forms : HeadingView → List Form
+expiry_forms h = if nat_le 2 h.version then Number (pos 0) (pos h.horizon) ∷ [] else []
+
+-- the fields after the kind, of the record r in a case with this heading
+abbrev pub forms : HeadingView → Record → RecordKind → List Form
+forms h r Core = Version ∷ []
+forms h r House = StartDate ∷ Number (pos 1) (pos 20) ∷ Number (number_in r 2) (pos 40) ∷ []
+forms h r Market = Name ∷ []
+forms h r Holiday = Name ∷ HolidayDate ∷ []
+forms h r Instrument =
+    Name ∷ InstrumentKind ∷ Name
+    ∷ Number (pos 1) (pos (10 ^ 6)) ∷ Number (pos 1) (pos 20) ∷ Number (pos 0) (pos 10) ∷ expiry_forms h
+forms h r Limit = Name ∷ replicate h.horizon amount_form
+forms h r Tier = Name ∷ cost_form ∷ replicate h.horizon amount_form
+forms h r Pool = Name ∷ amount_form ∷ []
+forms h r Member = Name ∷ Name ∷ Number (pos 1) (pos (10 ^ 6)) ∷ []
+forms h r Scenario = Name ∷ []
+forms h r Path = Name ∷ Name ∷ replicate (suc h.last) price_form
+forms h r Position = Name ∷ Number (negsuc (10 ^ 9 - 1)) (pos (10 ^ 9)) ∷ []
+forms h r Collateral = Name ∷ Number (pos 1) (pos (10 ^ 9)) ∷ []
+forms h r Cash = Number (pos 0) (pos h.last) ∷ Number (negsuc (10 ^ 15 - 1)) (pos (10 ^ 15)) ∷ []
+forms h r End = []
 
 -- A name that a record refers to: the place of its field, and the kind of the records that declare it. Markets,
 -- instruments, pools and scenarios have names of their own.
@@ -77,6 +104,7 @@ abbrev pub references : RecordKind → List (ℕ × RecordKind)
 references Holiday = (1, Market) ∷ []
 references Instrument = (3, Market) ∷ []
 references Limit = (1, Instrument) ∷ []
+references Tier = (1, Instrument) ∷ []
 references Member = (1, Pool) ∷ (2, Instrument) ∷ []
 references Path = (1, Scenario) ∷ (2, Instrument) ∷ []
 references Position = (1, Instrument) ∷ []
@@ -102,15 +130,17 @@ key_length Path = 2
 key_length Position = 1
 key_length Collateral = 1
 key_length Cash = 1
+key_length Tier = 0
 key_length Core = 0
 key_length House = 0
 key_length End = 0
 
--- how many records of a kind a case takes; of holidays, how many of one market
+-- how many records of a kind a case takes: of holidays for each market, of tiers for each instrument
 abbrev pub most_records : RecordKind → Option ℕ
 most_records Market = Some 8
 most_records Holiday = Some 400
 most_records Instrument = Some 32
+most_records Tier = Some 3
 most_records Pool = Some 16
 most_records Scenario = Some 64
 most_records Core = None

@@ -8,11 +8,11 @@ use Rattle.core_sums.specs.Places.{below, row_at}
 use Rattle.core_rows.specs.Names.{Record, field, place_of}
 use Rattle.core_rows.specs.Fields.{whole, day_of, records}
 use Rattle.core_case.specs.declared.kinds.RecordKind.{RecordKind}
-use Rattle.core_case.specs.declared.kinds.RecordKind.TheVariants.{Market, Holiday, Instrument, Limit, Pool, Member, Scenario, Path, Position, Collateral, Cash}
+use Rattle.core_case.specs.declared.kinds.RecordKind.TheVariants.{Market, Holiday, Instrument, Limit, Tier, Pool, Member, Scenario, Path, Position, Collateral, Cash}
 use Rattle.core_case.specs.Kinds.{is_kind, number_in, natural_in}
-use Rattle.core_case.specs.Faults.{Faulty, of_kind, filed, horizon_in, last_in, house_name, is_future, first_fault}
+use Rattle.core_case.specs.Faults.{Faulty, of_kind, filed, heading_of, house_name, is_future, first_fault}
 use Rattle.core_case.specs.Codes.{code_of}
-use Rattle.core_book.specs.View.{CaseView}
+use Rattle.core_book.specs.View.{CaseView, TierView}
 use Rattle.core_book.specs.declared.parts.Kind.TheVariants as kinds
 use Rattle.core_book.specs.declared.parts.Side.TheVariants as sides
 use Rattle.core_book.specs.declared.parts.Instr as instr
@@ -53,11 +53,30 @@ instrument_of_record r = record {
   mult = number_in r 4;
   delay = natural_in r 5;
   lag = natural_in r 6;
+  expiry = natural_in r 7;
 }
 
--- the limits of an instrument, by closing day
+-- the limits that the limit record of an instrument states, by closing day
 abbrev pub limits_of : List Record → List ℕ → List ℤ
 limits_of rs name = numbers_from 2 (unwrap_or (filed Limit name [] rs) [])
+
+-- tier 1 of an instrument costs nothing
+abbrev pub first_tier : List Record → List ℕ → TierView
+first_tier rs name = record { cost = pos 0; limits = limits_of rs name }
+
+-- a further tier, and those of an instrument among records of tiers, in order
+abbrev pub tier_of_record : Record → TierView
+tier_of_record r = record { cost = number_in r 2; limits = numbers_from 3 r }
+
+abbrev pub tiers_among : List Record → List ℕ → List TierView
+tiers_among rows name = map tier_of_record (filter (λ r. bytes_eq (field r 1) name) rows)
+
+-- the tiers of an instrument, where these records state the further ones, from tier 1 on
+abbrev pub depth_among : List Record → List Record → List ℕ → List TierView
+depth_among rs rows name = first_tier rs name ∷ tiers_among rows name
+
+abbrev pub depth_of : List Record → List ℕ → List TierView
+depth_of rs name = depth_among rs (of_kind Tier rs) name
 
 -- the prices of a scenario and an instrument, by house day
 abbrev pub prices_of : List Record → List ℕ → List ℕ → List ℤ
@@ -103,18 +122,18 @@ cash_on rs t = cash_among (of_kind Cash rs) (pos t)
 abbrev pub case_of : List Record → CaseView
 case_of rs = record {
   start = day_in (row_at rs 1) 1;
-  horizon = horizon_in rs;
-  last = last_in rs;
+  horizon = (heading_of rs).horizon;
+  last = (heading_of rs).last;
   holidays = map (holidays_of rs) (market_names rs);
   instruments = map instrument_of_record (of_kind Instrument rs);
   markets = map (λ r. place_of (field r 3) (market_names rs)) (of_kind Instrument rs);
-  limits = map (limits_of rs) (declared_names Instrument rs);
+  depth = map (depth_of rs) (declared_names Instrument rs);
   pools = map pool_of_record (of_kind Pool rs);
   members = map (member_of_record rs) (of_kind Member rs);
   scenarios = declared_names Scenario rs;
   prices = map (λ k. map (prices_of rs k) (declared_names Instrument rs)) (declared_names Scenario rs);
   lines = map (line_of_record rs) (line_records rs);
-  cash = map (cash_on rs) (below (suc (last_in rs)));
+  cash = map (cash_on rs) (below (suc (heading_of rs).last));
 }
 
 -- The case of the records, or the number of the first faulty one and the code of its fault.

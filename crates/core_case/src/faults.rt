@@ -7,9 +7,9 @@ ghost use Rattle.core_case.specs.Codes.{code_of};
 pub(crate) enum RecordFault {
     /// The first record is no `core`.
     FirstNotCore,
-    /// The version is not 1.
-    NotVersionOne,
-    /// The first field is the word of no kind.
+    /// The version is not 1, 2 or 3.
+    UnknownVersion,
+    /// The first field is the word of no kind of the version.
     UnknownKind,
     /// The second record is no `house`, or another is `core` or `house`.
     OutOfOrder,
@@ -33,6 +33,8 @@ pub(crate) enum RecordFault {
     TooMany,
     /// The collateral is of a future.
     CollateralOfFuture,
+    /// A security has an expiry.
+    ExpiryOfSecurity,
     /// At the end a scenario, a limit or a path is missing.
     Incomplete,
     /// The record stands after `end`.
@@ -42,13 +44,13 @@ pub(crate) enum RecordFault {
 }
 
 impl RecordFault {
-    /// The number of the fault in the format, 1 to 17.
+    /// The number of the fault in the format, 1 to 18.
     pub(crate) fn code(self) -> u8
         ensures { result ≡ code_of self }
     {
         match self {
             RecordFault::FirstNotCore => 1,
-            RecordFault::NotVersionOne => 2,
+            RecordFault::UnknownVersion => 2,
             RecordFault::UnknownKind => 3,
             RecordFault::OutOfOrder => 4,
             RecordFault::FieldCount => 5,
@@ -64,6 +66,7 @@ impl RecordFault {
             RecordFault::Incomplete => 15,
             RecordFault::AfterEnd => 16,
             RecordFault::EndMissing => 17,
+            RecordFault::ExpiryOfSecurity => 18,
         }
     }
 }

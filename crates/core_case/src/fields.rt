@@ -3,10 +3,10 @@ ghost use Rattle.std.specs.Prelude.{◌≡◌, ◌<◌, ◌^◌, Some};
 ghost use Rattle.jiff.specs.Words.{epoch_day};
 ghost use Rattle.core_rows.specs.Fields.{whole, day_of};
 ghost use Rattle.core_case.specs.Kinds.{number_in, natural_in};
-ghost use Rattle.core_case.specs.Faults.{first_date, is_between, last_holiday, last_start};
+ghost use Rattle.core_case.specs.Faults.{first_date, has_expiry, is_between, is_future, last_holiday, last_start};
 ghost use Rattle.core_case.specs.Stated.{day_in};
 
-use core_rows::{Fields, day_text, whole};
+use core_rows::{Fields, day_text, same, whole};
 use jiff::civil::{Date, date};
 
 /// The number in a field, 0 where it writes none.
@@ -22,6 +22,20 @@ pub(crate) fn natural_in(row: &Fields, i: usize) -> usize
     ensures bound { result < 2 ^ 63 }
 {
     number_in(row, i).unsigned_abs() as usize
+}
+
+/// Whether the record of an instrument is of a future.
+pub(crate) fn is_future(row: &Fields) -> bool
+    ensures { result ≡ is_future row.now }
+{
+    same(row.word(2), b"future")
+}
+
+/// Whether the record of an instrument states an expiry.
+pub(crate) fn has_expiry(row: &Fields) -> bool
+    ensures { result ≡ has_expiry row.now }
+{
+    0 < natural_in(row, 7)
 }
 
 /// The date in a field, 1970-01-01 where it writes none.

@@ -2,8 +2,8 @@
 ghost use Rattle.std.specs.Prelude.{◌≡◌, ◌<◌, [], length, get_or, true, false, if◌then◌else◌, is_some, Some, None, Ok, Err, IfOk, IfErr};
 ghost use Rattle.jiff.specs.Words.{epoch_day};
 ghost use Rattle.core_rows.specs.Fields.{day_of};
-ghost use Rattle.core_case.specs.Kinds.{forms};
-ghost use Rattle.core_case.specs.Faults.{first_date, form_fault, is_between, range_fault};
+ghost use Rattle.core_case.specs.Kinds.{forms, heading_view};
+ghost use Rattle.core_case.specs.Faults.{first_date, form_fault, is_between, is_version, range_fault};
 ghost use Rattle.core_rows.specs.Steps.{fault_unless};
 ghost use Rattle.core_case.specs.declared.faults.RecordFault.TheVariants.{NotADate, OutOfRange};
 ghost use Rattle.core_case.specs.declared.forms.Form.TheVariants.{Version, Number};
@@ -11,15 +11,15 @@ ghost use Rattle.core_case.specs.declared.kinds.RecordKind.TheVariants.{Instrume
 
 use crate::faults::RecordFault;
 use crate::fields::{day_is_between, first_date, last_holiday, last_start, number_in};
+use crate::heading::Heading;
 use crate::kinds::RecordKind;
-use crate::spans::Spans;
 use core_rows::{Fields, day_text, name_of, same, whole};
 use jiff::civil::Date;
 
 /// What a field is to be.
 #[derive(Clone, Copy, Debug)]
 pub(crate) enum Form {
-    /// The version, which is 1.
+    /// The version: 1, 2 or 3.
     Version,
     /// A name.
     Name,
@@ -34,8 +34,8 @@ pub(crate) enum Form {
 }
 
 /// How many fields a record of this kind has after the first.
-pub(crate) fn field_count(spans: Spans, row: &Fields, kind: RecordKind) -> usize
-    ensures { result ≡ length (forms spans.horizon spans.last row.now kind) }
+pub(crate) fn field_count(heading: Heading, row: &Fields, kind: RecordKind) -> usize
+    ensures { result ≡ length (forms (heading_view heading) row.now kind) }
 {
     match kind {
         RecordKind::End => 0,
@@ -46,9 +46,11 @@ pub(crate) fn field_count(spans: Spans, row: &Fields, kind: RecordKind) -> usize
         | RecordKind::Collateral
         | RecordKind::Cash => 2,
         RecordKind::House | RecordKind::Member => 3,
-        RecordKind::Instrument => 6,
-        RecordKind::Limit => spans.horizon + 1,
-        RecordKind::Path => spans.last + 3,
+        RecordKind::Instrument if heading.version < 2 => 6,
+        RecordKind::Instrument => 7,
+        RecordKind::Limit => heading.horizon + 1,
+        RecordKind::Tier => heading.horizon + 2,
+        RecordKind::Path => heading.last + 3,
     }
 }
 
@@ -60,34 +62,36 @@ fn number(low: i64, high: i64) -> Form
 }
 
 /// What the field at a place after the kind is to be, for an instrument.
-fn instrument_form(place: usize) -> Form
-    requires { place < 6 }
-    ensures { result ≡ get_or (forms 0 0 [] Instrument) place Version }
+fn instrument_form(heading: Heading, place: usize) -> Form
+    requires { place < length (forms (heading_view heading) [] Instrument) }
+    ensures { result ≡ get_or (forms (heading_view heading) [] Instrument) place Version }
 {
     match place {
         0 | 2 => Form::Name,
         1 => Form::InstrumentKind,
         3 => number(1, 1_000_000),
         4 => number(1, 20),
-        _ => number(0, 10),
+        5 => number(0, 10),
+        _ => number(0, heading.horizon as i64),
     }
 }
 
 /// What the field at a place after the kind is to be.
-pub(crate) fn form_at(spans: Spans, row: &Fields, kind: RecordKind, place: usize) -> Form
-    requires { place < length (forms spans.horizon spans.last row.now kind) }
-    ensures { result ≡ get_or (forms spans.horizon spans.last row.now kind) place Version }
+pub(crate) fn form_at(heading: Heading, row: &Fields, kind: RecordKind, place: usize) -> Form
+    requires { place < length (forms (heading_view heading) row.now kind) }
+    ensures { result ≡ get_or (forms (heading_view heading) row.now kind) place Version }
 {
     match (kind, place) {
         (RecordKind::Core | RecordKind::End, _) => Form::Version,
         (RecordKind::House, 0) => Form::StartDate,
         (RecordKind::House, 1) => number(1, 20),
         (RecordKind::House, _) => number(number_in(row, 2), 40),
-        (RecordKind::Instrument, _) => instrument_form(place),
-        (RecordKind::Cash, 0) => number(0, spans.last as i64),
+        (RecordKind::Instrument, _) => instrument_form(heading, place),
+        (RecordKind::Cash, 0) => number(0, heading.last as i64),
         (RecordKind::Cash, _) => number(-1_000_000_000_000_000, 1_000_000_000_000_000),
         (_, 0) => Form::Name,
         (RecordKind::Holiday, _) => Form::HolidayDate,
+        (RecordKind::Tier, 1) => number(0, 1_000_000_000_000),
         (RecordKind::Member | RecordKind::Path, 1) => Form::Name,
         (RecordKind::Path, _) => number(-1_000_000_000_000, 1_000_000_000_000),
         (RecordKind::Member, _) => number(1, 1_000_000),
@@ -118,6 +122,13 @@ fn date_in_range(word: &[u8], last: Date) -> Result<bool, RecordFault>
     }
 }
 
+/// Whether a word is the number of a version.
+fn is_version(word: &[u8]) -> bool
+    ensures { result ≡ is_version word.now }
+{
+    same(word, b"1") || same(word, b"2") || same(word, b"3")
+}
+
 /// Whether a field is in its range, or the fault of a field that has not its form.
 pub(crate) fn field_in_range(form: Form, word: &[u8]) -> Result<bool, RecordFault>
     ensures form { IfOk result (λ _. form_fault form word.now ≡ None) }
@@ -126,7 +137,7 @@ pub(crate) fn field_in_range(form: Form, word: &[u8]) -> Result<bool, RecordFaul
     ensures fault { IfErr result (λ fault. form_fault form word.now ≡ Some fault) }
 {
     match form {
-        Form::Version => true_unless(same(word, b"1"), RecordFault::NotVersionOne),
+        Form::Version => true_unless(is_version(word), RecordFault::UnknownVersion),
         Form::Name => true_unless(name_of(word).is_some(), RecordFault::NotAName),
         Form::InstrumentKind => true_unless(
             same(word, b"future") || same(word, b"security"),

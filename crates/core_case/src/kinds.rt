@@ -1,6 +1,6 @@
 // The kinds of records of a case.
 ghost use Rattle.std.specs.Prelude.{◌≡◌};
-ghost use Rattle.core_case.specs.Kinds.{is_kind, kind_of, word_of};
+ghost use Rattle.core_case.specs.Kinds.{has_kind, is_kind, kind_of, word_of};
 
 use core_rows::{Fields, same};
 
@@ -13,6 +13,7 @@ pub(crate) enum RecordKind {
     Holiday,
     Instrument,
     Limit,
+    Tier,
     Pool,
     Member,
     Scenario,
@@ -24,13 +25,14 @@ pub(crate) enum RecordKind {
 }
 
 /// Each kind.
-const KINDS: [RecordKind; 14] = [
+const KINDS: [RecordKind; 15] = [
     RecordKind::Core,
     RecordKind::House,
     RecordKind::Market,
     RecordKind::Holiday,
     RecordKind::Instrument,
     RecordKind::Limit,
+    RecordKind::Tier,
     RecordKind::Pool,
     RecordKind::Member,
     RecordKind::Scenario,
@@ -53,6 +55,7 @@ impl RecordKind {
             RecordKind::Holiday => b"holiday",
             RecordKind::Instrument => b"instr",
             RecordKind::Limit => b"limit",
+            RecordKind::Tier => b"tier",
             RecordKind::Pool => b"pool",
             RecordKind::Member => b"member",
             RecordKind::Scenario => b"scenario",
@@ -72,9 +75,19 @@ pub(crate) fn is_kind(kind: RecordKind, row: &Fields) -> bool
     same(row.word(0), kind.word())
 }
 
-/// The kind of a record, none where its first field is the word of no kind.
-pub(crate) fn kind_of(row: &Fields) -> Option<RecordKind>
-    ensures { result ≡ kind_of row.now }
+/// Whether a version of the format has a kind: tiers come with version 3.
+fn has_kind(version: usize, kind: RecordKind) -> bool
+    ensures { result ≡ has_kind version kind }
 {
-    KINDS.iter().copied().find(|kind| is_kind(*kind, row))
+    kind != RecordKind::Tier || 3 <= version
+}
+
+/// The kind of a record in a version, none where its first field is the word of no kind that the version has.
+pub(crate) fn kind_of(version: usize, row: &Fields) -> Option<RecordKind>
+    ensures { result ≡ kind_of version row.now }
+{
+    KINDS
+        .iter()
+        .copied()
+        .find(|kind| has_kind(version, *kind) && is_kind(*kind, row))
 }

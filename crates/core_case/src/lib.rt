@@ -1,21 +1,17 @@
 //! The case: instruments, limits, lines, pools and scenarios, as the records of a file state them.
 #![tactic(auto)]
 
-mod book;
-mod case;
 mod faults;
 mod fields;
 mod forms;
+mod heading;
 mod kinds;
 mod laws;
-mod parts;
 mod read;
 mod register;
 mod shape;
-mod spans;
 mod state;
 
-pub use case::Case;
+pub use core_book::{Case, Instr, Kind, Line, Member, Pool, Side, Tier};
 pub use laws::stated_case_law;
-pub use parts::{Instr, Kind, Line, Member, Pool, Side};
 pub use read::{CaseFault, read_case};

@@ -9,12 +9,12 @@ ghost use Rattle.core_case.specs.Refusals.{IsFault, RefusesBytes};
 ghost use Rattle.core_case.specs.declared.read.CaseFault.TheVariants.{Bad};
 ghost use Rattle.core_case.specs.Stated.{case_of_bytes};
 
-use crate::case::Case;
 use crate::faults::RecordFault;
 use crate::kinds::{RecordKind, is_kind, kind_of};
 use crate::register::Register;
 use crate::shape::own_fault;
 use crate::state::state_book;
+use core_book::Case;
 use core_rows::{Fields, records};
 use std::alloc::{AllocError, Global};
 
@@ -38,11 +38,11 @@ impl From<AllocError> for CaseFault {
     }
 }
 
-/// The kind of a record, where so many came before: the first is `core`, and each is of some kind.
-fn known_kind(place: usize, row: &Fields) -> Result<RecordKind, RecordFault>
+/// The kind of a record, where so many came before: the first is `core`, and each is of some kind of the version.
+fn known_kind(place: usize, version: usize, row: &Fields) -> Result<RecordKind, RecordFault>
     ensures known { IfOk result (λ kind.
-        (kind_step place row.now ≡ None) × (kind_of row.now ≡ Some kind)) }
-    ensures fault { IfErr result (λ fault. kind_step place row.now ≡ Some fault) }
+        (kind_step place version row.now ≡ None) × (kind_of version row.now ≡ Some kind)) }
+    ensures fault { IfErr result (λ fault. kind_step place version row.now ≡ Some fault) }
 {
     if place == 0 {
         return if is_kind(RecordKind::Core, row) {
@@ -51,7 +51,7 @@ fn known_kind(place: usize, row: &Fields) -> Result<RecordKind, RecordFault>
             Err(RecordFault::FirstNotCore)
         };
     }
-    match kind_of(row) {
+    match kind_of(version, row) {
         Some(kind) => Ok(kind),
         None => Err(RecordFault::UnknownKind),
     }
@@ -66,8 +66,10 @@ fn sound_kind(register: &Register, row: &Fields) -> Result<RecordKind, RecordFau
     if register.has_ended() {
         return Err(RecordFault::AfterEnd);
     }
-    let kind = known_kind(register.len(), row)?;
-    if let Some(fault) = own_fault(register.len(), register.spans(), row, kind) {
+    let place = register.len();
+    let heading = register.heading();
+    let kind = known_kind(place, heading.version, row)?;
+    if let Some(fault) = own_fault(place, heading, row, kind) {
         return Err(fault);
     }
     match register.book_fault(row, kind) {

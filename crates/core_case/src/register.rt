@@ -4,10 +4,10 @@ ghost use Rattle.core_case.specs.Kinds.{most_records};
 ghost use Rattle.core_case.specs.Faults.{group_of, key_of};
 
 use crate::faults::RecordFault;
-use crate::fields::natural_in;
+use crate::fields::{has_expiry, is_future, natural_in};
+use crate::heading::Heading;
 use crate::kinds::{RecordKind, is_kind};
-use crate::spans::Spans;
-use core_rows::{Fields, same};
+use core_rows::{Fields, fault_unless, same};
 use indexmap::IndexMap;
 use std::alloc::{AllocError, Global};
 use std::marker::Model;
@@ -20,11 +20,12 @@ pub(crate) struct Key<'a> {
     pub(crate) second: &'a [u8],
 }
 
-/// What is counted together: the records of a kind, of holidays those of one market.
+/// What is counted together: the records of a kind, of holidays those of one market and of tiers those of one
+/// instrument, by its name.
 #[derive(Clone, Copy, PartialEq, Eq, Hash)]
 pub(crate) struct Group<'a> {
     pub(crate) kind: RecordKind,
-    pub(crate) market: &'a [u8],
+    pub(crate) name: &'a [u8],
 }
 
 /// The sound records that were read so far. Contracts see the list of these records.
@@ -54,7 +55,7 @@ fn key_of<'a>(kind: RecordKind, row: &'a Fields) -> Key<'a>
     ensures second { result.second.now ≡ (key_of kind row.now).1 }
 {
     match kind {
-        RecordKind::Core | RecordKind::House | RecordKind::End => Key {
+        RecordKind::Core | RecordKind::House | RecordKind::Tier | RecordKind::End => Key {
             kind,
             first: b"",
             second: b"",
@@ -75,23 +76,22 @@ fn key_of<'a>(kind: RecordKind, row: &'a Fields) -> Key<'a>
 /// What a record of this kind is counted with.
 fn group_of<'a>(kind: RecordKind, row: &'a Fields) -> Group<'a>
     ensures kind { result.kind ≡ kind }
-    ensures market { result.market.now ≡ group_of kind row.now }
+    ensures name { result.name.now ≡ group_of kind row.now }
 {
-    let market = if kind == RecordKind::Holiday {
-        row.word(1)
-    } else {
-        b""
+    let name = match kind {
+        RecordKind::Holiday | RecordKind::Tier => row.word(1),
+        _ => b"",
     };
-    Group { kind, market }
+    Group { kind, name }
 }
 
 impl<'a> Register<'a> {
     ghost use Rattle.std.specs.Prelude.{◌≡◌, [], ◌∷◌, ◌++◌, true, nat_lt, length, map, option_map, is_some, IfOk};
     ghost use Rattle.std.specs.List.{list_all};
-    ghost use Rattle.core_case.specs.Kinds.{is_kind, references};
-    ghost use Rattle.core_case.specs.Faults.{filed, count_in, group_of, has_ended, is_declared, name_step, names_future, repeats, has_room, of_kind, has_limit, has_path, is_complete, book_fault, horizon_in, last_in};
+    ghost use Rattle.core_case.specs.Kinds.{heading_view, is_kind, natural_in, references};
+    ghost use Rattle.core_case.specs.Faults.{filed, count_in, group_of, has_ended, is_declared, name_step, names_future, security_step, repeats, has_room, of_kind, has_limit, has_path, is_complete, book_fault, heading_of};
     ghost use Rattle.core_rows.specs.Steps.{first_of};
-    ghost use Rattle.std.specs.Prelude.{◌≤◌, ◌<◌};
+    ghost use Rattle.std.specs.Prelude.{◌≤◌, ◌<◌, ◌^◌};
     ghost use Rattle.core_sums.specs.Places.{row_at};
     ghost use Rattle.core_case.specs.declared.kinds.RecordKind.TheVariants.{Instrument, Scenario};
 
@@ -145,20 +145,25 @@ impl<'a> Register<'a> {
         self.rows.len()
     }
 
-    /// The last closing day and the last house day, as the second record states them; 0 where there is none.
-    pub(crate) fn spans(&self) -> Spans
-        ensures horizon { result.horizon ≡ horizon_in self.now }
-        ensures last { result.last ≡ last_in self.now }
+    /// The number in a field of a record, 0 where there is no such record.
+    fn natural_at(&self, place: usize, field: usize) -> usize
+        ensures value { result ≡ natural_in (row_at self.now place) field }
+        ensures bound { result < 2 ^ 63 }
     {
-        match self.rows.get(1) {
-            Some(house) => Spans {
-                horizon: natural_in(house, 2),
-                last: natural_in(house, 3),
-            },
-            None => Spans {
-                horizon: 0,
-                last: 0,
-            },
+        match self.rows.get(place) {
+            Some(row) => natural_in(row, field),
+            None => 0,
+        }
+    }
+
+    /// What the first two records state: the version, the last closing day and the last house day; 0 where there is none.
+    pub(crate) fn heading(&self) -> Heading
+        ensures { heading_view result ≡ heading_of self.now }
+    {
+        Heading {
+            version: self.natural_at(0, 1),
+            horizon: self.natural_at(1, 2),
+            last: self.natural_at(1, 3),
         }
     }
 
@@ -230,9 +235,8 @@ impl<'a> Register<'a> {
         match kind {
             RecordKind::Holiday => self.undeclared(row, 1, RecordKind::Market),
             RecordKind::Instrument => self.undeclared(row, 3, RecordKind::Market),
-            RecordKind::Limit | RecordKind::Position | RecordKind::Collateral => {
-                self.undeclared(row, 1, RecordKind::Instrument)
-            }
+            RecordKind::Limit | RecordKind::Tier | RecordKind::Position | RecordKind::Collateral =>
+                { self.undeclared(row, 1, RecordKind::Instrument) }
             RecordKind::Member => self
                 .undeclared(row, 1, RecordKind::Pool)
                 .or(self.undeclared(row, 2, RecordKind::Instrument)),
@@ -248,8 +252,25 @@ impl<'a> Register<'a> {
         ensures { result ≡ names_future self.now name.now }
     {
         match self.find(RecordKind::Instrument, name, b"") {
-            Some(instrument) => same(instrument.word(2), b"future"),
+            Some(instrument) => is_future(instrument),
             None => false,
+        }
+    }
+
+    /// The fault of collateral of a future, and of a security with an expiry.
+    fn security_fault(&self, row: &Fields, kind: RecordKind) -> Option<RecordFault>
+        ensures { result ≡ security_step self.now row.now kind }
+    {
+        match kind {
+            RecordKind::Collateral => fault_unless(
+                !self.names_future(row.word(1)),
+                RecordFault::CollateralOfFuture,
+            ),
+            RecordKind::Instrument => fault_unless(
+                is_future(row) || !has_expiry(row),
+                RecordFault::ExpiryOfSecurity,
+            ),
+            _ => None,
         }
     }
 
@@ -259,7 +280,7 @@ impl<'a> Register<'a> {
     {
         let key = key_of(kind, row);
         match kind {
-            RecordKind::Core | RecordKind::House | RecordKind::End => false,
+            RecordKind::Core | RecordKind::House | RecordKind::Tier | RecordKind::End => false,
             RecordKind::Market => {
                 same(key.first, b"HOUSE") || self.has(kind, key.first, key.second)
             }
@@ -346,8 +367,8 @@ impl<'a> Register<'a> {
         if let Some(fault) = self.names_fault(row, kind) {
             return Some(fault);
         }
-        if kind == RecordKind::Collateral && self.names_future(row.word(1)) {
-            return Some(RecordFault::CollateralOfFuture);
+        if let Some(fault) = self.security_fault(row, kind) {
+            return Some(fault);
         }
         if self.repeats(row, kind) {
             return Some(RecordFault::Repeated);
@@ -362,7 +383,7 @@ impl<'a> Register<'a> {
     }
 }
 
-/// How many records of a kind a case takes, of holidays how many of one market.
+/// How many records of a kind a case takes, of holidays how many of one market and of tiers how many of one instrument.
 fn most_records(kind: RecordKind) -> Option<usize>
     ensures { result ≡ most_records kind }
 {
@@ -370,6 +391,7 @@ fn most_records(kind: RecordKind) -> Option<usize>
         RecordKind::Market => Some(8),
         RecordKind::Holiday => Some(400),
         RecordKind::Instrument => Some(32),
+        RecordKind::Tier => Some(3),
         RecordKind::Pool => Some(16),
         RecordKind::Scenario => Some(64),
         _ => None,

@@ -1,19 +1,19 @@
 // The faults of a record by itself.
 ghost use Rattle.std.specs.Prelude.{◌≡◌, Some, None, IfOk, IfErr};
-ghost use Rattle.core_case.specs.Kinds.{forms};
+ghost use Rattle.core_case.specs.Kinds.{forms, heading_view};
 ghost use Rattle.core_case.specs.Faults.{form_fault, order_step, own_fault, range_fault, zero_step};
 
 use crate::faults::RecordFault;
 use crate::fields::number_in;
 use crate::forms::{Form, field_count, field_in_range, form_at};
+use crate::heading::Heading;
 use crate::kinds::RecordKind;
-use crate::spans::Spans;
 use core_rows::{Fields, Shape, fault_unless, fields_fault};
 
-/// What the fields of a record of a kind are to be, in a case of these days.
+/// What the fields of a record of a kind are to be, in a case with this heading.
 #[derive(Drop)]
 struct RecordShape<'a> {
-    spans: Spans,
+    heading: Heading,
     row: &'a Fields,
     kind: RecordKind,
 }
@@ -23,18 +23,18 @@ impl<'a> Shape for RecordShape<'a> {
 
     type Fault = RecordFault;
 
-    ghost forms = { λ a. forms a.spans.horizon a.spans.last a.row.now a.kind };
+    ghost forms = { λ a. forms (heading_view a.heading) a.row.now a.kind };
 
     ghost form_fault = { form_fault };
 
     ghost range_fault = { range_fault };
 
     fn count(&self) -> usize {
-        field_count(self.spans, self.row, self.kind)
+        field_count(self.heading, self.row, self.kind)
     }
 
     fn form_at(&self, place: usize) -> Form {
-        form_at(self.spans, self.row, self.kind, place)
+        form_at(self.heading, self.row, self.kind, place)
     }
 
     fn judge(form: Form, word: &[u8]) -> Result<Option<RecordFault>, RecordFault>
@@ -72,16 +72,16 @@ fn zero_fault(row: &Fields, kind: RecordKind) -> Option<RecordFault>
 /// The fault of a record of this kind by itself, where so many records came before.
 pub(crate) fn own_fault(
     place: usize,
-    spans: Spans,
+    heading: Heading,
     row: &Fields,
     kind: RecordKind,
 ) -> Option<RecordFault>
-    ensures { result ≡ own_fault place (forms spans.horizon spans.last row.now kind) row.now kind }
+    ensures { result ≡ own_fault place (forms (heading_view heading) row.now kind) row.now kind }
 {
     if let Some(fault) = order_fault(place, kind) {
         return Some(fault);
     }
-    let shape = RecordShape { spans, row, kind };
+    let shape = RecordShape { heading, row, kind };
     if let Some(fault) = fields_fault(&shape, row, RecordFault::FieldCount) {
         return Some(fault);
     }

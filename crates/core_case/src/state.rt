@@ -4,18 +4,17 @@ ghost use Rattle.std.specs.List.{All, AllPairs};
 ghost use Rattle.jiff.specs.Words.{epoch_day};
 ghost use Rattle.core_rows.specs.Fields.{IsName};
 ghost use Rattle.core_sums.specs.Places.{below};
-ghost use Rattle.core_book.specs.Inside.{book_view};
+ghost use Rattle.core_book.specs.Inside.{book_view, tier_view};
 ghost use Rattle.core_book.specs.Kept.{IsInstrument};
 ghost use Rattle.core_rows.specs.Names.{field, place_of};
-ghost use Rattle.core_case.specs.Faults.{house_name, last_in, of_kind};
-ghost use Rattle.core_case.specs.Stated.{case_of, cash_among, declared_names, holidays_among, instrument_of_record, limits_of, line_among, line_records, market_names, member_among, names_in, numbers_from, pool_of_record, prices_of};
+ghost use Rattle.core_case.specs.Faults.{heading_of, house_name, of_kind};
+ghost use Rattle.core_case.specs.Stated.{case_of, cash_among, declared_names, depth_among, first_tier, holidays_among, instrument_of_record, limits_of, line_among, line_records, market_names, member_among, names_in, numbers_from, pool_of_record, prices_of, tier_of_record};
 ghost use Rattle.core_case.specs.Whole.{IsWhole};
 
-use crate::book::Book;
-use crate::fields::{day_in, natural_in, number_in};
+use crate::fields::{day_in, is_future, natural_in, number_in};
 use crate::kinds::{RecordKind, is_kind};
-use crate::parts::{Instr, Kind, Line, Member, Pool, Side};
 use crate::register::Register;
+use core_book::{Book, Instr, Kind, Line, Member, Pool, Side, Tier};
 use core_rows::{Fields, Name, name_of, same};
 use indexmap::IndexSet;
 use jiff::civil::Date;
@@ -106,7 +105,7 @@ fn numbers_from(alloc: Global, row: &Fields, first: usize) -> Result<Vec<i64>, A
     Ok(numbers)
 }
 
-/// The limits of an instrument, none where no record states them.
+/// The limits that the limit record of an instrument states, none where there is none.
 fn limits_of(
     alloc: Global,
     register: &Register,
@@ -118,6 +117,47 @@ fn limits_of(
         Some(row) => numbers_from(alloc, row, 2),
         None => Ok(Vec::new(alloc)),
     }
+}
+
+/// Tier 1 of an instrument, which costs nothing.
+fn first_tier(alloc: Global, register: &Register, instrument: &Fields) -> Result<Tier, AllocError>
+    ensures { IfOk result (λ tier.
+        tier_view tier ≡ first_tier register.now (field instrument.now 1)) }
+{
+    Ok(Tier {
+        cost: 0,
+        limits: limits_of(alloc, register, instrument)?,
+    })
+}
+
+/// The tier that a record states.
+fn tier(alloc: Global, row: &Fields) -> Result<Tier, AllocError>
+    ensures { IfOk result (λ tier. tier_view tier ≡ tier_of_record row.now) }
+{
+    Ok(Tier {
+        cost: number_in(row, 2),
+        limits: numbers_from(alloc, row, 3)?,
+    })
+}
+
+/// The tiers of an instrument, where these records state the further ones, from tier 1 on.
+fn tiers_of(
+    alloc: Global,
+    register: &Register,
+    rows: &[&Fields],
+    instrument: &Fields,
+) -> Result<Vec<Tier>, AllocError>
+    ensures { IfOk result (λ v. map tier_view v.items
+        ≡ depth_among register.now (map (λ r. r.now) rows.now) (field instrument.now 1)) }
+{
+    let mut tiers = Vec::new(alloc);
+    tiers.push(first_tier(alloc, register, instrument)?)?;
+    for row in rows {
+        if same(row.word(1), instrument.word(1)) {
+            tiers.push(tier(alloc, row)?)?;
+        }
+    }
+    Ok(tiers)
 }
 
 /// The prices of an instrument in a scenario, none where no record states them.
@@ -178,12 +218,12 @@ fn name_in(row: &Fields, i: usize) -> Name
 
 /// The instrument that a record states.
 fn instrument(row: &Fields) -> Instr
-    requires { IsInstrument (instrument_of_record row.now) }
+    requires { IsInstrument 20 (instrument_of_record row.now) }
     ensures { result ≡ instrument_of_record row.now }
 {
     Instr {
         name: name_in(row, 1),
-        kind: if same(row.word(2), b"future") {
+        kind: if is_future(row) {
             Kind::Future
         } else {
             Kind::Security
@@ -191,12 +231,13 @@ fn instrument(row: &Fields) -> Instr
         mult: number_in(row, 4),
         delay: natural_in(row, 5) as u8,
         lag: natural_in(row, 6) as u8,
+        expiry: natural_in(row, 7) as u8,
     }
 }
 
 /// The instruments that records state, in order.
 fn instruments(alloc: Global, rows: &[&Fields]) -> Result<Vec<Instr>, AllocError>
-    requires { All IsInstrument (map instrument_of_record (map (λ r. r.now) rows.now)) }
+    requires { All (IsInstrument 20) (map instrument_of_record (map (λ r. r.now) rows.now)) }
     ensures { IfOk result (λ v. v.items ≡ map instrument_of_record (map (λ r. r.now) rows.now)) }
 {
     let mut instruments = Vec::with_capacity(alloc, rows.len())?;
@@ -219,20 +260,22 @@ fn markets(alloc: Global, rows: &[&Fields], markets: &NameNumbers) -> Result<Vec
     Ok(places)
 }
 
-/// The limits of each instrument.
-fn limits(
+/// The tiers of each instrument.
+fn depth(
     alloc: Global,
     register: &Register,
+    rows: &[&Fields],
     instruments: &[&Fields],
-) -> Result<Vec<Vec<i64>>, AllocError>
-    ensures { IfOk result (λ v. map (λ limits. limits.items) v.items
-        ≡ map (limits_of register.now) (names_in (map (λ r. r.now) instruments.now))) }
+) -> Result<Vec<Vec<Tier>>, AllocError>
+    ensures { IfOk result (λ v. map (λ tiers. map tier_view tiers.items) v.items
+        ≡ map (depth_among register.now (map (λ r. r.now) rows.now))
+        (names_in (map (λ r. r.now) instruments.now))) }
 {
-    let mut limits = Vec::with_capacity(alloc, instruments.len())?;
-    for row in instruments {
-        limits.push(limits_of(alloc, register, row)?)?;
+    let mut depth = Vec::with_capacity(alloc, instruments.len())?;
+    for instrument in instruments {
+        depth.push(tiers_of(alloc, register, rows, instrument)?)?;
     }
-    Ok(limits)
+    Ok(depth)
 }
 
 /// The prices of each instrument in a scenario.
@@ -462,13 +505,14 @@ fn book_markets(alloc: Global, register: &Register) -> Result<Vec<usize>, AllocE
     markets(alloc, &rows, &names)
 }
 
-/// The limits of each instrument of a register.
-fn book_limits(alloc: Global, register: &Register) -> Result<Vec<Vec<i64>>, AllocError>
-    ensures { IfOk result (λ v.
-        map (λ limits. limits.items) v.items ≡ (case_of register.now).limits) }
+/// The tiers of each instrument of a register.
+fn book_depth(alloc: Global, register: &Register) -> Result<Vec<Vec<Tier>>, AllocError>
+    ensures { IfOk result (λ v. map (λ tiers. map tier_view tiers.items) v.items
+        ≡ (case_of register.now).depth) }
 {
-    let rows = rows_of_kind(alloc, register, RecordKind::Instrument)?;
-    limits(alloc, register, &rows)
+    let tier_rows = rows_of_kind(alloc, register, RecordKind::Tier)?;
+    let instrument_rows = rows_of_kind(alloc, register, RecordKind::Instrument)?;
+    depth(alloc, register, &tier_rows, &instrument_rows)
 }
 
 /// The pools of a register.
@@ -522,7 +566,7 @@ fn book_lines(alloc: Global, register: &Register) -> Result<Vec<Line>, AllocErro
 
 /// The fixed cash of the house days of a register, 0 to the last.
 fn book_cash(alloc: Global, register: &Register, last: u8) -> Result<Vec<i64>, AllocError>
-    requires { last ≡ last_in register.now }
+    requires { last ≡ (heading_of register.now).last }
     ensures { IfOk result (λ v. v.items ≡ (case_of register.now).cash) }
 {
     let rows = rows_of_kind(alloc, register, RecordKind::Cash)?;
@@ -543,7 +587,7 @@ pub(crate) fn state_book(alloc: Global, register: &Register) -> Result<Book, All
         holidays: book_holidays(alloc, register)?,
         instruments: book_instruments(alloc, register)?,
         markets: book_markets(alloc, register)?,
-        limits: book_limits(alloc, register)?,
+        depth: book_depth(alloc, register)?,
         pools: book_pools(alloc, register)?,
         members: book_members(alloc, register)?,
         scenarios: book_scenarios(alloc, register)?,

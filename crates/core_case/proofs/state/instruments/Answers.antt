@@ -5,4 +5,4 @@ use Rattle.core_case.proofs.state.instruments.Goals as goal
 
 pub instrument-requires : goal.instrument-requires
 instrument-requires c =
-    stated_at IsInstrument instrument_of_record (λ r. r.now) c.args.rows.now c.loop-row.row-index c.row-item.result c.requires c.loop-row-test.true c.row-item.is
+    stated_at (IsInstrument 20) instrument_of_record (λ r. r.now) c.args.rows.now c.loop-row.row-index c.row-item.result c.requires c.loop-row-test.true c.row-item.is

@@ -1,13 +1,13 @@
 use Rattle.std.proofs.Common.{◌≡◌, ◌≤◌, ◌∙◌, ap, arith, rules}
 use Rattle.core_case.specs.Kinds.{natural_in}
-use Rattle.core_case.specs.Faults.{horizon_in, last_in}
+use Rattle.core_case.specs.Faults.{heading_of}
 use Rattle.core_case.specs.Stated.{day_in}
 use Rattle.core_case.proofs.state.state_book.Goals as goal
 
 pub overflow_cast-last : goal.overflow_cast-last
 overflow_cast-last c =
-    let last : c.natural_in-last.result ≡ last_in c.args.register.now = c.natural_in-last.ensures.value ∙ ap (λ r. natural_in r 3) c.house-house.ensures in
-    let small : last_in c.args.register.now ≤ 40 = c.requires.kept.last.1 in
+    let last : c.natural_in-last.result ≡ (heading_of c.args.register.now).last = c.natural_in-last.ensures.value ∙ ap (λ r. natural_in r 3) c.house-house.ensures in
+    let small : (heading_of c.args.register.now).last ≤ 40 = c.requires.kept.last.1 in
     search (rules, arith)
 
 pub book_cash-requires : goal.book_cash-requires
@@ -16,8 +16,8 @@ book_cash-requires c = c.natural_in-last.ensures.value ∙ ap (λ r. natural_in 
 pub returns : goal.returns
 returns c =
     let start = c.day_in.ensures ∙ ap (λ r. day_in r 1) c.house-house.ensures in
-    let horizon : c.natural_in.result ≡ horizon_in c.args.register.now = c.natural_in.ensures.value ∙ ap (λ r. natural_in r 2) c.house-house.ensures in
-    let last : c.natural_in-last.result ≡ last_in c.args.register.now = c.natural_in-last.ensures.value ∙ ap (λ r. natural_in r 3) c.house-house.ensures in
+    let horizon : c.natural_in.result ≡ (heading_of c.args.register.now).horizon = c.natural_in.ensures.value ∙ ap (λ r. natural_in r 2) c.house-house.ensures in
+    let last : c.natural_in-last.result ≡ (heading_of c.args.register.now).last = c.natural_in-last.ensures.value ∙ ap (λ r. natural_in r 3) c.house-house.ensures in
     λ i. record {
       start = start i;
       horizon = horizon i;
@@ -25,7 +25,7 @@ returns c =
       holidays = c.in_ok-book_holidays.ensures i;
       instruments = c.in_ok-book_instruments.ensures i;
       markets = c.in_ok-book_markets.ensures i;
-      limits = c.in_ok-book_limits.ensures i;
+      depth = c.in_ok-book_depth.ensures i;
       pools = c.in_ok-book_pools.ensures i;
       members = c.in_ok-book_members.ensures i;
       scenarios = c.in_ok-book_scenarios.ensures i;

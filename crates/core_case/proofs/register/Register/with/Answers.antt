@@ -32,7 +32,7 @@ invariant_of-result c =
     let keyed : IsKeyOf c.args.kind c.args.row.now c.key_of-key.result =
     record { kind_is = c.key_of-key.ensures.kind; first_is = c.key_of-key.ensures.first; second_is = c.key_of-key.ensures.second } in
     let grouped : IsGroupOf c.args.kind c.args.row.now c.group_of-group.result =
-    record { kind_is = c.group_of-group.ensures.kind; market_is = c.group_of-group.ensures.market } in
+    record { kind_is = c.group_of-group.ensures.kind; name_is = c.group_of-group.ensures.name } in
     let filed : (k : Key) → value_at (get same_key c.if-not-contains_key.filed k) ≡ filed_at k (rs ++ (c.args.row.now ∷ [])) =
     elim c.if-not-contains_key.branch [
       | then-not-contains_key+in_ok-insert w ↦
