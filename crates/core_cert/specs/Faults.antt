@@ -1,6 +1,6 @@
 -- The first faulty record of a certificate, and its fault. A record is judged by the case, by the record before it and
 -- by the second record, in the order of the steps below, and the first step that fails gives the fault.
-use Rattle.std.specs.Prelude.{ℕ, zero, suc, ◌+◌, ◌-◌, ◌*◌, List, [], ◌∷◌, ◌++◌, length, map, codes, ℤ, pos, int_le, unsigned_abs, Bool, false, not, ◌&&◌, ◌||◌, nat_lt, if◌then◌else◌, Option, Some, None, is_some}
+use Rattle.std.specs.Prelude.{ℕ, zero, suc, ◌-◌, min, List, [], ◌∷◌, ◌++◌, length, map, codes, ℤ, pos, int_le, unsigned_abs, Bool, false, not, ◌&&◌, ◌||◌, nat_lt, if◌then◌else◌, Option, Some, None, is_some}
 use Rattle.std.specs.Ordering.{int_eq}
 use Rattle.std.specs.Option.{unwrap_or}
 use Rattle.std.specs.List.{list_any, position_or_len}
@@ -10,15 +10,16 @@ use Rattle.core_rows.specs.Names.{Record, field, place_of}
 use Rattle.core_rows.specs.Steps.{fault_unless, first_of}
 use Rattle.core_rows.specs.Steps as Steps
 use Rattle.core_rows.specs.Fields.{wide, name_of}
-use Rattle.core_book.specs.View.{CaseView, instrument, line, instrument_of}
+use Rattle.core_book.specs.View.{CaseView, instrument, line, is_tiered, instrument_of}
 use Rattle.core_model.specs.Closing.{line_count}
+use Rattle.core_model.specs.Layout.{closing_place, pool_place, scenario_place}
 use Rattle.core_cert.specs.declared.kinds.RecordKind.{RecordKind}
 use Rattle.core_cert.specs.declared.kinds.RecordKind.TheVariants.{Cert, Cannot, Amount, Margin, Scenario, Limit, Pool, Full, End}
 use Rattle.core_cert.specs.declared.forms.Form.{Form}
-use Rattle.core_cert.specs.declared.forms.Form.TheVariants.{Version, Name, SideWord, Day, Numerator, NotZero}
+use Rattle.core_cert.specs.declared.forms.Form.TheVariants.{Version, Name, SideWord, Number, Numerator, NotZero}
 use Rattle.core_cert.specs.declared.faults.RecordFault.{RecordFault}
-use Rattle.core_cert.specs.declared.faults.RecordFault.TheVariants.{FirstNotCert, NotVersionOne, UnknownKind, OutOfOrder, FieldCount, NotAName, NotANumber, NotASide, OutOfRange, NotInCase, NoSuchLine, NotRising, NotTheMargin, AfterEnd, EndMissing}
-use Rattle.core_cert.specs.Written.{side_word, floored}
+use Rattle.core_cert.specs.declared.faults.RecordFault.TheVariants.{FirstNotCert, OtherVersion, UnknownKind, OutOfOrder, FieldCount, NotAName, NotANumber, NotASide, OutOfRange, NotInCase, NoSuchLine, NotRising, NotTheMargin, AfterEnd, EndMissing}
+use Rattle.core_cert.specs.Written.{version_word, side_word, floored}
 use Rattle.core_cert.specs.Kinds.{kind_of, is_kind, followers, forms}
 
 -- the last of some records, empty where there is none
@@ -51,10 +52,10 @@ abbrev pub is_side_word : List ℕ → Bool
 is_side_word word = bytes_eq word (codes "position") || bytes_eq word (codes "collateral")
 
 abbrev pub form_fault : Form → List ℕ → Option RecordFault
-form_fault Version word = fault_unless (bytes_eq word (codes "1")) NotVersionOne
+form_fault (Version tiered) word = fault_unless (bytes_eq word (version_word tiered)) OtherVersion
 form_fault Name word = fault_unless (is_some (name_of word)) NotAName
 form_fault SideWord word = fault_unless (is_side_word word) NotASide
-form_fault (Day first last) word = fault_unless (is_some (wide word)) NotANumber
+form_fault (Number first last) word = fault_unless (is_some (wide word)) NotANumber
 form_fault Numerator word = fault_unless (is_some (wide word)) NotANumber
 form_fault NotZero word = fault_unless (is_some (wide word)) NotANumber
 
@@ -63,10 +64,11 @@ abbrev pub number_in : List ℕ → ℤ
 number_in word = unwrap_or (wide word) (pos 0)
 
 abbrev pub range_fault : Form → List ℕ → Option RecordFault
-range_fault Version word = None
+range_fault (Version tiered) word = None
 range_fault Name word = None
 range_fault SideWord word = None
-range_fault (Day first last) word = fault_unless (int_le (pos first) (number_in word) && int_le (number_in word) (pos last)) OutOfRange
+range_fault (Number first last) word =
+    fault_unless (int_le (pos first) (number_in word) && int_le (number_in word) (pos last)) OutOfRange
 range_fault Numerator word = None
 range_fault NotZero word = fault_unless (not (int_eq (number_in word) (pos 0))) OutOfRange
 
@@ -104,16 +106,20 @@ line_step c Amount r = line_fault c r
 line_step c Full r = line_fault c r
 line_step c _ r = None
 
--- Step 9: the key is above that of the record before, where that is of the same kind. A key is a number of the case and
--- a day; as one number it is the place in the list of the kind's numbers.
-abbrev pub day_in : Record → ℕ → ℕ
-day_in r n = unsigned_abs (number_in (field r n))
+-- Step 9: the key is above that of the record before, where that is of the same kind. A key, as one number, is the
+-- place in the list of the kind's numbers. Days and tiers are below 255; a number that is not counts as 255.
+abbrev pub small_in : Record → ℕ → ℕ
+small_in r n = min (unsigned_abs (number_in (field r n))) 255
+
+-- the tier in a field, which is tier 1 in version 1
+abbrev pub tier_in : CaseView → Record → ℕ → ℕ
+tier_in c r n = if is_tiered c then small_in r n else 1
 
 abbrev pub place_in : CaseView → RecordKind → Record → ℕ
-place_in c Amount r = line_named c r * c.horizon + (day_in r 3 - 1)
-place_in c Scenario r = place_of (field r 1) c.scenarios * suc c.last + day_in r 2
-place_in c Limit r = place_of (field r 1) (instrument_names c) * c.horizon + (day_in r 2 - 1)
-place_in c Pool r = place_of (field r 1) (pool_names c) * c.horizon + (day_in r 2 - 1)
+place_in c Amount r = closing_place c (line_named c r) (small_in r 3) (tier_in c r 4)
+place_in c Scenario r = scenario_place c (place_of (field r 1) c.scenarios) (small_in r 2)
+place_in c Limit r = closing_place c (place_of (field r 1) (instrument_names c)) (small_in r 2) (tier_in c r 3)
+place_in c Pool r = pool_place c (place_of (field r 1) (pool_names c)) (small_in r 2)
 place_in c Full r = line_named c r
 place_in c _ r = 0
 
@@ -139,7 +145,7 @@ case_fault c earlier kind r = first_of (name_step c kind r ∷ line_step c kind 
 abbrev pub later_fault : CaseView → List Record → Record → Option RecordKind → Option RecordFault
 later_fault c earlier r None = None
 later_fault c earlier r (Some kind) =
-    first_of (order_step earlier r ∷ fields_fault (forms c.horizon c.last kind) r ∷ case_fault c earlier kind r ∷ [])
+    first_of (order_step earlier r ∷ fields_fault (forms c kind) r ∷ case_fault c earlier kind r ∷ [])
 
 -- the fault of a record, none of a sound one
 abbrev pub fault_of : CaseView → List Record → Record → Option RecordFault

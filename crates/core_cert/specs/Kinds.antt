@@ -1,13 +1,14 @@
 -- The kinds of records of a certificate, one row a kind: its word, the fields that it has after it, and the kinds that
 -- may stand after it.
-use Rattle.std.specs.Prelude.{ℕ, List, [], ◌∷◌, codes, Bool, true, false, Option}
+use Rattle.std.specs.Prelude.{ℕ, List, [], ◌∷◌, ◌++◌, codes, Bool, true, false, if◌then◌else◌, Option}
 use Rattle.std.specs.List.{find}
 use Rattle.std.specs.Str.{bytes_eq}
 use Rattle.core_rows.specs.Names.{Record, field}
+use Rattle.core_book.specs.View.{CaseView, tiers, is_tiered}
 use Rattle.core_cert.specs.declared.kinds.RecordKind.{RecordKind}
 use Rattle.core_cert.specs.declared.kinds.RecordKind.TheVariants.{Cert, Closes, Cannot, Amount, Loss, Margin, Weights, Scenario, Limit, Pool, Full, End}
 use Rattle.core_cert.specs.declared.forms.Form.{Form}
-use Rattle.core_cert.specs.declared.forms.Form.TheVariants.{Version, Name, SideWord, Day, Numerator, NotZero}
+use Rattle.core_cert.specs.declared.forms.Form.TheVariants.{Version, Name, SideWord, Number, Numerator, NotZero}
 
 abbrev pub word_of : RecordKind → List ℕ
 word_of Cert = codes "cert"
@@ -53,17 +54,21 @@ followers refusing Pool = Pool ∷ Full ∷ End ∷ []
 followers refusing Full = Full ∷ End ∷ []
 followers refusing End = []
 
--- the fields after the kind, in a case of so many closing days and house days
-abbrev pub forms : ℕ → ℕ → RecordKind → List Form
-forms horizon last Cert = Version ∷ []
-forms horizon last Closes = Numerator ∷ []
-forms horizon last Cannot = []
-forms horizon last Amount = Name ∷ SideWord ∷ Day 1 horizon ∷ NotZero ∷ []
-forms horizon last Loss = Numerator ∷ []
-forms horizon last Margin = Numerator ∷ []
-forms horizon last Weights = Numerator ∷ []
-forms horizon last Scenario = Name ∷ Day 0 last ∷ NotZero ∷ []
-forms horizon last Limit = Name ∷ Day 1 horizon ∷ NotZero ∷ []
-forms horizon last Pool = Name ∷ Day 1 horizon ∷ NotZero ∷ []
-forms horizon last Full = Name ∷ SideWord ∷ NotZero ∷ []
-forms horizon last End = []
+-- the field of a tier, which version 1 has not
+abbrev pub tier_forms : CaseView → List Form
+tier_forms c = if is_tiered c then Number 1 (tiers c) ∷ [] else []
+
+-- the fields after the kind, in a certificate of a case
+abbrev pub forms : CaseView → RecordKind → List Form
+forms c Cert = Version (is_tiered c) ∷ []
+forms c Closes = Numerator ∷ []
+forms c Cannot = []
+forms c Amount = Name ∷ SideWord ∷ Number 1 c.horizon ∷ (tier_forms c ++ (NotZero ∷ []))
+forms c Loss = Numerator ∷ []
+forms c Margin = Numerator ∷ []
+forms c Weights = Numerator ∷ []
+forms c Scenario = Name ∷ Number 0 c.last ∷ NotZero ∷ []
+forms c Limit = Name ∷ Number 1 c.horizon ∷ (tier_forms c ++ (NotZero ∷ []))
+forms c Pool = Name ∷ Number 1 c.horizon ∷ NotZero ∷ []
+forms c Full = Name ∷ SideWord ∷ NotZero ∷ []
+forms c End = []

@@ -1,12 +1,10 @@
 -- What the numbered names of a case are kept as: sets whose keys, in order, are the names and the lines of the case.
-use Rattle.std.specs.Prelude.{◌≡◌, ℕ, suc, ◌*◌, List, length, map}
+use Rattle.std.specs.Prelude.{◌≡◌, ℕ, List, map}
 use Rattle.core_sums.specs.Places.{below}
 use Rattle.core_book.specs.View.{CaseView, instrument, line, instrument_of}
 use Rattle.core_model.specs.Closing.{line_count}
 use Rattle.core_cert.specs.Written.{side_word}
 use Rattle.core_cert.specs.Faults.{instrument_names, pool_names}
-use Rattle.core_cert.specs.declared.kinds.RecordKind.{RecordKind}
-use Rattle.core_cert.specs.declared.kinds.RecordKind.TheVariants.{Amount, Scenario, Limit, Pool, Full}
 use Rattle.core_cert.specs.declared.names.LineKey.{LineKey}
 use Rattle.core_cert.specs.declared.names.CaseNames.TheInside.{Inside}
 
@@ -25,12 +23,3 @@ pub record IsNumbered (a : Inside) : Type 0 where
   pub scenarios : map (λ k. k.now) a.scenarios.keys ≡ a.case.now.scenarios
   pub pools : map (λ k. k.now) a.pools.keys ≡ pool_names a.case.now
   pub lines : map key_words a.lines.keys ≡ lines_words a.case.now
-
--- how many places the list of a kind's numbers has
-abbrev pub places_of : CaseView → RecordKind → ℕ
-places_of c Amount = line_count c * c.horizon
-places_of c Scenario = length c.scenarios * suc c.last
-places_of c Limit = length c.instruments * c.horizon
-places_of c Pool = length c.pools * c.horizon
-places_of c Full = line_count c
-places_of c _ = 0

@@ -7,8 +7,8 @@ ghost use Rattle.core_cert.specs.Codes.{code_of};
 pub(crate) enum RecordFault {
     /// The first record is no `cert`.
     FirstNotCert,
-    /// The version is not 1.
-    NotVersionOne,
+    /// The version is not that of a certificate of the case.
+    OtherVersion,
     /// The first field is the word of no kind.
     UnknownKind,
     /// The kind may not stand after the record before it.
@@ -21,7 +21,7 @@ pub(crate) enum RecordFault {
     NotANumber,
     /// A field that is to be a side is none.
     NotASide,
-    /// A day is out of its range, or a numerator that may not be 0 is 0.
+    /// A day or a tier is out of its range, or a numerator that may not be 0 is 0.
     OutOfRange,
     /// The case has no scenario, instrument or pool of the name.
     NotInCase,
@@ -44,7 +44,7 @@ impl RecordFault {
     {
         match self {
             RecordFault::FirstNotCert => 1,
-            RecordFault::NotVersionOne => 2,
+            RecordFault::OtherVersion => 2,
             RecordFault::UnknownKind => 3,
             RecordFault::OutOfOrder => 4,
             RecordFault::FieldCount => 5,

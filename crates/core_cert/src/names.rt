@@ -7,8 +7,8 @@ ghost use Rattle.core_rows.specs.Names.{place_of};
 ghost use Rattle.core_cert.specs.Numbered.{key_words, lines_words};
 
 use crate::faults::RecordFault;
-use crate::fields::day_in;
-use crate::forms::Spans;
+use crate::fields::small_in;
+use crate::forms::is_tiered;
 use crate::kinds::RecordKind;
 use crate::record::side_word;
 use core_book::Case;
@@ -154,26 +154,28 @@ fn place_of(names: &IndexSet<&[u8]>, word: &[u8]) -> usize
 }
 
 /// The place of a row and a column, both from 0, where each row has so many columns.
-fn cell(row: usize, columns: u8, column: u128) -> u128
-    requires { column < 2 ^ 127 }
+fn cell(row: u128, columns: u8, column: u8) -> u128
+    requires { row < 2 ^ 80 }
     ensures { result ≡ row * columns + column }
 {
-    row as u128 * u128::from(columns) + column
+    row * u128::from(columns) + u128::from(column)
 }
 
 /// How many places so many rows of so many columns have.
-fn cells(rows: usize, columns: usize) -> usize
-    requires rows { rows ≤ 64 }
+fn cells(rows: usize, columns: u8) -> usize
+    requires rows { rows ≤ 1280 }
     requires columns { columns ≤ 64 }
     ensures { result ≡ rows * columns }
 {
-    rows * columns
+    rows * usize::from(columns)
 }
 
 impl<'a> CaseNames<'a> {
-    ghost use Rattle.std.specs.Prelude.{◌≡◌, ◌<◌, ◌+◌, ◌-◌, ◌*◌, ◌^◌, IfOk};
-    ghost use Rattle.core_cert.specs.Faults.{instrument_names, line_named, line_step, name_step, place_in, pool_names};
-    ghost use Rattle.core_cert.specs.Numbered.{places_of};
+    ghost use Rattle.std.specs.Prelude.{◌≡◌, ◌≤◌, ◌*◌, IfOk};
+    ghost use Rattle.core_book.specs.View.{tiers};
+    ghost use Rattle.core_model.specs.Layout.{closing_place, pool_place, scenario_place};
+    ghost use Rattle.core_cert.specs.Faults.{instrument_names, line_named, line_step, name_step, place_in, pool_names, tier_in};
+    ghost use Rattle.core_cert.specs.Stated.{places_of};
 
     /// A case, with its names numbered.
     pub(crate) fn make(
@@ -197,15 +199,11 @@ impl<'a> CaseNames<'a> {
         })
     }
 
-    /// The last closing day and the last house day.
-    pub(crate) fn spans(&self) -> Spans
-        ensures horizon { result.horizon ≡ self.now.horizon }
-        ensures last { result.last ≡ self.now.last }
+    /// The case.
+    pub(crate) fn case(&self) -> &'a Case
+        ensures { result.now ≡ self.now }
     {
-        Spans {
-            horizon: self.case.horizon(),
-            last: self.case.last(),
-        }
+        self.case
     }
 
     /// The line that a record names, and how many lines there are where the case has no such line.
@@ -258,38 +256,73 @@ impl<'a> CaseNames<'a> {
     {
         let name = row.word(1);
         match kind {
-            RecordKind::Amount => self.closing_place(self.line_named(row), day_in(row, 3)),
+            RecordKind::Amount => {
+                let tier = self.tier_in(row, 4);
+                self.closing_place(self.line_named(row), small_in(row, 3), tier)
+            }
             RecordKind::Scenario => {
-                let scenario = place_of(&self.scenarios, name);
-                cell(scenario, self.case.last() + 1, day_in(row, 2))
+                self.scenario_place(place_of(&self.scenarios, name), small_in(row, 2))
             }
             RecordKind::Limit => {
-                self.closing_place(place_of(&self.instruments, name), day_in(row, 2))
+                let instrument = place_of(&self.instruments, name);
+                self.closing_place(instrument, small_in(row, 2), self.tier_in(row, 3))
             }
-            RecordKind::Pool => self.closing_place(place_of(&self.pools, name), day_in(row, 2)),
+            RecordKind::Pool => self.pool_place(place_of(&self.pools, name), small_in(row, 2)),
             RecordKind::Full => self.line_named(row) as u128,
             _ => 0,
         }
     }
 
-    /// The place of a row and a closing day, from 1, where each row has a place for each closing day.
-    fn closing_place(&self, row: usize, day: u128) -> u128
-        requires { day < 2 ^ 127 }
-        ensures { result ≡ row * self.now.horizon + (day - 1) }
+    /// The tier in a field, which is tier 1 where the case has no other.
+    fn tier_in(&self, row: &Fields, i: usize) -> u8
+        ensures { result ≡ tier_in self.now row.now i }
     {
-        cell(row, self.case.horizon(), day.saturating_sub(1))
+        if is_tiered(self.case) {
+            small_in(row, i)
+        } else {
+            1
+        }
+    }
+
+    /// The place of a pool, from 0, and a closing day, from 1.
+    fn pool_place(&self, pool: usize, day: u8) -> u128
+        ensures { result ≡ pool_place self.now pool day }
+    {
+        cell(pool as u128, self.case.horizon(), day.saturating_sub(1))
+    }
+
+    /// The place of a scenario and a house day, both from 0.
+    fn scenario_place(&self, scenario: usize, day: u8) -> u128
+        ensures { result ≡ scenario_place self.now scenario day }
+    {
+        cell(scenario as u128, self.case.last() + 1, day)
+    }
+
+    /// The place of a line or an instrument, from 0, a closing day and a tier, both from 1.
+    fn closing_place(&self, row: usize, day: u8, tier: u8) -> u128
+        ensures { result ≡ closing_place self.now row day tier }
+    {
+        let days = cell(row as u128, self.case.horizon(), day.saturating_sub(1));
+        cell(days, self.case.tiers(), tier.saturating_sub(1))
+    }
+
+    /// How many places so many lines or instruments have, by closing day and tier.
+    fn closings(&self, rows: usize) -> usize
+        requires { rows ≤ 64 }
+        ensures { result ≡ rows * self.now.horizon * tiers self.now }
+    {
+        cells(cells(rows, self.case.horizon()), self.case.tiers())
     }
 
     /// How many places the list of a kind's numbers has.
     pub(crate) fn places(&self, kind: RecordKind) -> usize
         ensures { result ≡ places_of self.now kind }
     {
-        let horizon = self.case.horizon() as usize;
         match kind {
-            RecordKind::Amount => cells(self.case.lines(), horizon),
-            RecordKind::Scenario => cells(self.case.scenarios(), self.case.last() as usize + 1),
-            RecordKind::Limit => cells(self.case.instruments(), horizon),
-            RecordKind::Pool => cells(self.case.pools(), horizon),
+            RecordKind::Amount => self.closings(self.case.lines()),
+            RecordKind::Scenario => cells(self.case.scenarios(), self.case.last() + 1),
+            RecordKind::Limit => self.closings(self.case.instruments()),
+            RecordKind::Pool => cells(self.case.pools(), self.case.horizon()),
             RecordKind::Full => self.case.lines(),
             _ => 0,
         }

@@ -3,11 +3,19 @@ ghost use Rattle.std.specs.Prelude.{◌≡◌, ◌<◌, ◌++◌, ◌∷◌, [],
 ghost use Rattle.core_rows.specs.Fields.{row_text};
 ghost use Rattle.core_rows.specs.Written.{IsPlainRow, rows_text};
 ghost use Rattle.core_model.specs.Fits.{IsKept};
-ghost use Rattle.core_cert.specs.Written.{amount_record, day_record, full_record, is_plain_word, line_fields, side_word, word_record};
+ghost use Rattle.core_cert.specs.Written.{amount_record, day_record, first_record, full_record, is_plain_word, limit_record, line_fields, side_word, tier_fields, version_word, word_record};
 
+use crate::forms::is_tiered;
 use core_book::{Case, Side};
 use core_rows::{Fields, Name, put_row};
 use std::alloc::{AllocError, Global};
+
+/// The version of the format: 2 for a case of which an instrument has more than one tier, else 1.
+pub(crate) fn version_word(tiered: bool) -> &'static [u8]
+    ensures { result.now ≡ version_word tiered }
+{
+    if tiered { b"2" } else { b"1" }
+}
 
 /// The word of a side.
 pub(crate) fn side_word(side: Side) -> &'static [u8]
@@ -26,6 +34,16 @@ pub(crate) fn put_word(alloc: Global, out: &mut Vec<u8>, word: &[u8]) -> Result<
 {
     let mut fields = Fields::make(alloc);
     fields.push(word)?;
+    put_row(alloc, out, &fields)
+}
+
+/// Prints the first record of a certificate of a case.
+pub(crate) fn put_first(alloc: Global, out: &mut Vec<u8>, case: &Case) -> Result<(), AllocError>
+    ensures { OnOk result (out.new.items ≡ out.old.items ++ row_text (first_record case.now)) }
+{
+    let mut fields = Fields::make(alloc);
+    fields.push(b"cert")?;
+    fields.push(version_word(is_tiered(case)))?;
     put_row(alloc, out, &fields)
 }
 
@@ -90,26 +108,67 @@ fn line_record(alloc: Global, case: &Case, word: &[u8], l: usize) -> Result<Fiel
     Ok(fields)
 }
 
-/// Prints the amount of a line on a day, nothing where it is 0.
+/// Adds a day, and a tier where the case has more than one.
+fn push_closing(fields: &mut Fields, case: &Case, day: u8, tier: u8) -> Result<(), AllocError>
+    requires { IsPlainRow fields.old }
+    ensures value { OnOk result (fields.new
+        ≡ fields.old ++ (decimal day ∷ tier_fields case.now tier)) }
+    ensures plain { OnOk result (IsPlainRow fields.new) }
+{
+    fields.push_number(i128::from(day))?;
+    if is_tiered(case) {
+        fields.push_number(i128::from(tier))?;
+    }
+    Ok(())
+}
+
+/// Prints the amount of a line on a day in a tier, nothing where it is 0.
 pub(crate) fn put_amount(
     alloc: Global,
     out: &mut Vec<u8>,
     case: &Case,
     l: usize,
     day: u8,
+    tier: u8,
     amount: i128,
 ) -> Result<(), AllocError>
     requires line { l < length case.now.lines }
     requires amount { IsKept amount }
     ensures { OnOk result (out.new.items
-        ≡ out.old.items ++ rows_text (amount_record case.now l day amount)) }
+        ≡ out.old.items ++ rows_text (amount_record case.now l day tier amount)) }
 {
     if amount == 0 {
         return Ok(());
     }
     let mut fields = line_record(alloc, case, b"amount", l)?;
-    fields.push_number(i128::from(day))?;
+    push_closing(&mut fields, case, day, tier)?;
     fields.push_number(amount)?;
+    put_row(alloc, out, &fields)
+}
+
+/// Prints the weight of an instrument's limit on a day in a tier, nothing where it is 0.
+pub(crate) fn put_limit(
+    alloc: Global,
+    out: &mut Vec<u8>,
+    case: &Case,
+    i: usize,
+    day: u8,
+    tier: u8,
+    weight: i128,
+) -> Result<(), AllocError>
+    requires instrument { i < length case.now.instruments }
+    requires weight { IsKept weight }
+    ensures { OnOk result (out.new.items
+        ≡ out.old.items ++ rows_text (limit_record case.now i day tier weight)) }
+{
+    if weight == 0 {
+        return Ok(());
+    }
+    let mut fields = Fields::make(alloc);
+    fields.push(b"limit")?;
+    fields.push(case.instrument(i).name.bytes())?;
+    push_closing(&mut fields, case, day, tier)?;
+    fields.push_number(weight)?;
     put_row(alloc, out, &fields)
 }
 

@@ -4,34 +4,35 @@ ghost use Rattle.core_cert.specs.Kinds.{forms};
 ghost use Rattle.core_cert.specs.Faults.{fields_fault, form_fault, range_fault};
 
 use crate::faults::RecordFault;
-use crate::forms::{Form, Spans, field_count, form_at, form_fault, range_fault};
+use crate::forms::{Form, field_count, form_at, form_fault, range_fault};
 use crate::kinds::RecordKind;
+use core_book::Case;
 use core_rows::{Fields, Shape};
 
-/// What the fields of a record of a kind are to be, for a case of these days.
-#[derive(Clone, Copy)]
-struct RecordShape {
-    spans: Spans,
+/// What the fields of a record of a kind are to be, in a certificate of a case.
+#[derive(Drop)]
+struct RecordShape<'a> {
+    case: &'a Case,
     kind: RecordKind,
 }
 
-impl Shape for RecordShape {
+impl<'a> Shape for RecordShape<'a> {
     type Form = Form;
 
     type Fault = RecordFault;
 
-    ghost forms = { λ a. forms a.spans.horizon a.spans.last a.kind };
+    ghost forms = { λ a. forms a.case.now a.kind };
 
     ghost form_fault = { form_fault };
 
     ghost range_fault = { range_fault };
 
     fn count(&self) -> usize {
-        field_count(self.spans, self.kind)
+        field_count(self.case, self.kind)
     }
 
     fn form_at(&self, place: usize) -> Form {
-        form_at(self.spans, self.kind, place)
+        form_at(self.case, self.kind, place)
     }
 
     fn judge(form: Form, word: &[u8]) -> Result<Option<RecordFault>, RecordFault>
@@ -47,8 +48,8 @@ impl Shape for RecordShape {
 }
 
 /// The fault of the fields of a record of this kind: their number, their forms, their ranges.
-pub(crate) fn fields_fault(spans: Spans, row: &Fields, kind: RecordKind) -> Option<RecordFault>
-    ensures { result ≡ fields_fault (forms spans.horizon spans.last kind) row.now }
+pub(crate) fn fields_fault(case: &Case, row: &Fields, kind: RecordKind) -> Option<RecordFault>
+    ensures { result ≡ fields_fault (forms case.now kind) row.now }
 {
-    core_rows::fields_fault(&RecordShape { spans, kind }, row, RecordFault::FieldCount)
+    core_rows::fields_fault(&RecordShape { case, kind }, row, RecordFault::FieldCount)
 }

@@ -5,7 +5,6 @@ ghost use Rattle.std.specs.List.{find};
 ghost use Rattle.core_cert.specs.Kinds.{is_kind};
 ghost use Rattle.core_cert.specs.Faults.{place_in};
 ghost use Rattle.core_cert.specs.Stated.{calendar_stated, cert_of, last_number, numbers_of, weights_stated};
-ghost use Rattle.core_cert.specs.Numbered.{places_of};
 
 use crate::fields::last_number;
 use crate::kinds::{RecordKind, is_kind};
@@ -44,7 +43,7 @@ fn numbers_of(
     rows: &[Fields],
     kind: RecordKind,
 ) -> Result<Numbers, AllocError>
-    ensures { IfOk result (λ v. v ≡ numbers_of names.now rows.now kind (places_of names.now kind)) }
+    ensures { IfOk result (λ v. v ≡ numbers_of names.now rows.now kind) }
 {
     let mut numbers = Numbers::zeros(alloc, names.places(kind))?;
     for i in (0..rows.len()).rev() {

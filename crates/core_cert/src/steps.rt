@@ -156,7 +156,7 @@ fn later_fault(
     if let Some(fault) = order_fault(earlier, row) {
         return Some(fault);
     }
-    if let Some(fault) = fields_fault(names.spans(), row, kind) {
+    if let Some(fault) = fields_fault(names.case(), row, kind) {
         return Some(fault);
     }
     case_fault(names, earlier, row, kind)

@@ -1,38 +1,35 @@
 // The text of a certificate, kind by kind.
-ghost use Rattle.std.specs.Prelude.{◌≡◌, ◌<◌, ◌≤◌, ◌+◌, ◌-◌, ◌*◌, ◌++◌, ◌∷◌, [], suc, IsTrue, OnOk, IfOk, All, length};
-ghost use Rattle.core_sums.specs.Places.{at};
-ghost use Rattle.core_rows.specs.Fields.{row_text};
+ghost use Rattle.std.specs.Prelude.{◌≡◌, ◌<◌, ◌≤◌, ◌++◌, OnOk, IfOk, length};
 ghost use Rattle.core_rows.specs.Written.{rows_text};
-ghost use Rattle.core_model.specs.Fits.{AreKept, CalendarFits, Fits, IsKept, WeightsFit};
-ghost use Rattle.core_cert.specs.Written.{amount_records, cert_text, closing_days, closing_records, constraint_records, full_records, is_plain_word, limit_records, line_amounts, most_bytes, pool_records, refusing_records, scenario_days, scenario_records, IsPlainlyRefusing};
+ghost use Rattle.core_model.specs.Fits.{CalendarFits, Fits, IsKept, WeightsFit};
+ghost use Rattle.core_model.specs.Closing.{IsClosingDay};
+ghost use Rattle.core_model.specs.Layout.{plan_of};
+ghost use Rattle.core_cert.specs.Written.{amount_records, cert_text, closing_records, constraint_records, day_amounts, day_limits, full_records, instrument_limits, limit_records, line_amounts, most_bytes, pool_days, pool_records, refusing_records, scenario_days, scenario_records, IsPlainlyRefusing};
 
-use crate::record::{put_amount, put_day, put_full, put_number, put_word};
+use crate::record::{put_amount, put_day, put_first, put_full, put_limit, put_number, put_word};
 use core_book::Case;
-use core_model::{Calendar, Cert, Numbers, Weights};
-use core_rows::Name;
+use core_model::{Calendar, Cert, Weights};
 use std::alloc::{AllocError, Global};
 
-/// The number at a place, from 0.
-fn number_at(numbers: &Numbers, place: usize) -> i128
-    requires place { place < length numbers.now }
-    requires kept { All IsKept numbers.now }
-    ensures value { result ≡ at numbers.now place }
-    ensures kept { IsKept result }
+/// Prints the amounts of a line on a day, by tier.
+fn put_day_amounts(
+    alloc: Global,
+    out: &mut Vec<u8>,
+    case: &Case,
+    calendar: &Calendar,
+    l: usize,
+    u: u8,
+) -> Result<(), AllocError>
+    requires line { l < length case.now.lines }
+    requires day { IsClosingDay case.now u }
+    requires fits { CalendarFits case.now calendar.now }
+    ensures { OnOk result (out.new.items ≡ out.old.items
+        ++ rows_text (day_amounts case.now (plan_of case.now calendar.now) l u)) }
 {
-    numbers.get(place)
-}
-
-/// The number of a row and a column, both from 0, where each row has so many columns.
-fn number_in_row(numbers: &Numbers, columns: usize, row: usize, column: usize) -> i128
-    requires place { row * columns + column < length numbers.now }
-    requires kept { All IsKept numbers.now }
-    ensures value { result ≡ at numbers.now (row * columns + column) }
-    ensures kept { IsKept result }
-{
-    // The place is within a usize, since it is below the number of numbers.
-    let count = numbers.len();
-    prove!(column < count);
-    number_at(numbers, row * columns + column)
+    for j in 1..=case.tiers() {
+        put_amount(alloc, out, case, l, u, j, calendar.amount(case, l, u, j))?;
+    }
+    Ok(())
 }
 
 /// Prints the amounts of a line, by closing day.
@@ -45,13 +42,11 @@ fn put_line_amounts(
 ) -> Result<(), AllocError>
     requires line { l < length case.now.lines }
     requires fits { CalendarFits case.now calendar.now }
-    ensures { OnOk result (out.new.items
-        ≡ out.old.items ++ rows_text (line_amounts case.now calendar.now l)) }
+    ensures { OnOk result (out.new.items ≡ out.old.items
+        ++ rows_text (line_amounts case.now (plan_of case.now calendar.now) l)) }
 {
-    let horizon = case.horizon();
-    for u in 1..=horizon {
-        let amount = number_in_row(&calendar.amounts, horizon as usize, l, u as usize - 1);
-        put_amount(alloc, out, case, l, u, amount)?;
+    for u in 1..=case.horizon() {
+        put_day_amounts(alloc, out, case, calendar, l, u)?;
     }
     Ok(())
 }
@@ -64,8 +59,8 @@ fn put_amounts(
     calendar: &Calendar,
 ) -> Result<(), AllocError>
     requires { CalendarFits case.now calendar.now }
-    ensures { OnOk result (out.new.items
-        ≡ out.old.items ++ rows_text (amount_records case.now calendar.now)) }
+    ensures { OnOk result (out.new.items ≡ out.old.items
+        ++ rows_text (amount_records case.now (plan_of case.now calendar.now))) }
 {
     for l in 0..case.lines() {
         put_line_amounts(alloc, out, case, calendar, l)?;
@@ -86,9 +81,8 @@ fn put_scenario_days(
     ensures { OnOk result (out.new.items
         ≡ out.old.items ++ rows_text (scenario_days case.now weights.now k)) }
 {
-    let last = case.last();
-    for t in 0..=last {
-        let weight = number_in_row(&weights.scenario, last as usize + 1, k, t as usize);
+    for t in 0..=case.last() {
+        let weight = weights.scenario_on(case, k, t);
         put_day(alloc, out, b"scenario", case.scenario(k), t, weight)?;
     }
     Ok(())
@@ -111,27 +105,42 @@ fn put_scenarios(
     Ok(())
 }
 
-/// Prints numbers of a name by closing day: of one row of numbers that has a column for each closing day.
-fn put_closing_days(
+/// Prints the weights of an instrument's limits on a day, by tier.
+fn put_day_limits(
     alloc: Global,
     out: &mut Vec<u8>,
     case: &Case,
-    word: &[u8],
-    name: Name,
-    numbers: &Numbers,
-    row: usize,
+    weights: &Weights,
+    i: usize,
+    u: u8,
 ) -> Result<(), AllocError>
-    requires word { IsTrue (is_plain_word word.now) }
-    requires row { row * case.now.horizon + case.now.horizon ≤ length numbers.now }
-    requires kept { All IsKept numbers.now }
+    requires instrument { i < length case.now.instruments }
+    requires day { IsClosingDay case.now u }
+    requires fits { WeightsFit case.now weights.now }
     ensures { OnOk result (out.new.items
-        ≡ out.old.items ++ rows_text (closing_days case.now.horizon word.now name
-        (λ u. at numbers.now (row * case.now.horizon + (u - 1))))) }
+        ≡ out.old.items ++ rows_text (day_limits case.now weights.now i u)) }
 {
-    let horizon = case.horizon();
-    for u in 1..=horizon {
-        let number = number_in_row(numbers, horizon as usize, row, u as usize - 1);
-        put_day(alloc, out, word, name, u, number)?;
+    for j in 1..=case.tiers() {
+        put_limit(alloc, out, case, i, u, j, weights.limit_on(case, i, u, j))?;
+    }
+    Ok(())
+}
+
+/// Prints the weights of an instrument's limits, by closing day.
+fn put_instrument_limits(
+    alloc: Global,
+    out: &mut Vec<u8>,
+    case: &Case,
+    weights: &Weights,
+    i: usize,
+) -> Result<(), AllocError>
+    requires instrument { i < length case.now.instruments }
+    requires fits { WeightsFit case.now weights.now }
+    ensures { OnOk result (out.new.items
+        ≡ out.old.items ++ rows_text (instrument_limits case.now weights.now i)) }
+{
+    for u in 1..=case.horizon() {
+        put_day_limits(alloc, out, case, weights, i, u)?;
     }
     Ok(())
 }
@@ -148,8 +157,27 @@ fn put_limits(
         ≡ out.old.items ++ rows_text (limit_records case.now weights.now)) }
 {
     for i in 0..case.instruments() {
-        let name = case.instrument(i).name;
-        put_closing_days(alloc, out, case, b"limit", name, &weights.limit, i)?;
+        put_instrument_limits(alloc, out, case, weights, i)?;
+    }
+    Ok(())
+}
+
+/// Prints the weights of a pool's cap, by closing day.
+fn put_pool_days(
+    alloc: Global,
+    out: &mut Vec<u8>,
+    case: &Case,
+    weights: &Weights,
+    p: usize,
+) -> Result<(), AllocError>
+    requires pool { p < length case.now.pools }
+    requires fits { WeightsFit case.now weights.now }
+    ensures { OnOk result (out.new.items
+        ≡ out.old.items ++ rows_text (pool_days case.now weights.now p)) }
+{
+    for u in 1..=case.horizon() {
+        let weight = weights.pool_on(case, p, u);
+        put_day(alloc, out, b"pool", case.pool(p).name, u, weight)?;
     }
     Ok(())
 }
@@ -166,8 +194,7 @@ fn put_pools(
         ≡ out.old.items ++ rows_text (pool_records case.now weights.now)) }
 {
     for p in 0..case.pools() {
-        let name = case.pool(p).name;
-        put_closing_days(alloc, out, case, b"pool", name, &weights.pool, p)?;
+        put_pool_days(alloc, out, case, weights, p)?;
     }
     Ok(())
 }
@@ -184,7 +211,7 @@ fn put_fulls(
         ≡ out.old.items ++ rows_text (full_records case.now weights.now)) }
 {
     for l in 0..case.lines() {
-        put_full(alloc, out, case, l, number_at(&weights.full, l))?;
+        put_full(alloc, out, case, l, weights.full_of(case, l))?;
     }
     Ok(())
 }
@@ -218,7 +245,8 @@ fn put_closing(
     requires loss { IsKept loss }
     requires weights { WeightsFit case.now weights.now }
     ensures { OnOk result (out.new.items
-        ≡ out.old.items ++ rows_text (closing_records case.now calendar.now loss weights.now)) }
+        ≡ out.old.items ++ rows_text (closing_records case.now
+        (plan_of case.now calendar.now) loss weights.now)) }
 {
     put_number(alloc, out, b"closes", calendar.den)?;
     put_amounts(alloc, out, case, calendar)?;
@@ -257,7 +285,7 @@ pub fn write_cert(alloc: Global, case: &Case, cert: &Cert) -> Result<Vec<u8>, Al
     // Every case keeps the bounds that the size of the text stands on.
     let _kept = case.horizon();
     let mut out = Vec::new(alloc);
-    put_number(alloc, &mut out, b"cert", 1)?;
+    put_first(alloc, &mut out, case)?;
     match cert {
         Cert::Closes {
             calendar,
