@@ -1,11 +1,9 @@
 -- The texts of a certificate's parts, joined.
-use Rattle.std.proofs.Common.{◌≡◌, ◌∷◌, ◌++◌, [], ℕ, List, pos, codes, append_assoc, refl}
+use Rattle.std.proofs.Common.{◌≡◌, ◌∷◌, ◌++◌, [], ℕ, List, append_assoc}
 use Rattle.std.proofs.lemmas.List.{append-nil}
-use Rattle.std.specs.Fmt.{digits}
 use Rattle.core_rows.specs.Fields.{row_text}
 use Rattle.core_rows.specs.Names.{Record}
 use Rattle.core_rows.specs.Written.{rows_text}
-use Rattle.core_cert.specs.Written.{word_record}
 use Rattle.core_cert.proofs.Printed.{rows_text-append, rows_text-cons, rows_text-none}
 
 -- the weights of limits, pools and lines
@@ -28,8 +26,3 @@ closing_joined start closes loss margin weights amounts scenarios constraints = 
 pub cert_joined : (version last : Record) (inner : List Record)
     → (([] ++ row_text version) ++ rows_text inner) ++ row_text last ≡ rows_text (version ∷ (inner ++ (last ∷ [])))
 cert_joined version last inner = simp (rows_text-cons, rows_text-append, rows_text-none, append-nil, append_assoc)
-
--- the record of the version
-pub version_one : word_record (codes "cert") (pos 1) ≡ codes "cert" ∷ codes "1" ∷ []
-unfolding digits
-version_one = refl

@@ -17,6 +17,7 @@ mod PlainReading
 mod RoundTripBlocks
 mod RoundTripFields
 mod RoundTripNames
+mod RoundTripTiers
 mod RoundTripRecords
 mod RoundTripSections
 mod RoundTripRest

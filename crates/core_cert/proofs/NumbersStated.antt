@@ -1,5 +1,5 @@
 -- The numbers that records state, record by record from the last, and that 128 bits keep them.
-use Rattle.std.proofs.Common.{◌≡◌, refl, sym, ◌∙◌, ap, subst, inl, inr, ℕ, zero, suc, ◌-◌, ◌*◌, ◌<◌, ◌≤◌, List, [], ◌∷◌, length, get_or, set, replicate, drop, drop-cons, arith, ℤ, pos, neg_ℤ, unsigned_abs, Bool, true, false, ◌&&◌, ◌==◌, nat_le, if◌then◌else◌, Option, Some, None, option_map, eq-eqb, lit≤}
+use Rattle.std.proofs.Common.{◌≡◌, refl, sym, ◌∙◌, ap, subst, inl, inr, ℕ, zero, suc, ◌-◌, ◌<◌, ◌≤◌, List, [], ◌∷◌, length, get_or, set, replicate, drop, drop-cons, arith, ℤ, pos, neg_ℤ, unsigned_abs, Bool, true, false, ◌&&◌, ◌==◌, nat_le, if◌then◌else◌, Option, Some, None, option_map, eq-eqb, lit≤}
 use Rattle.std.specs.Option.{unwrap_or}
 use Rattle.std.specs.List.{find}
 use Rattle.std.proofs.lemmas.Bool.{ne_eqb, cases_eq}
@@ -12,37 +12,39 @@ use Rattle.core_rows.specs.Names.{Record, field}
 use Rattle.core_rows.specs.Fields.{at_most, positive}
 use Rattle.core_book.specs.View.{CaseView}
 use Rattle.core_model.specs.Fits.{AreKept, Fits, IsKept}
-use Rattle.core_model.specs.Closing.{line_count}
 use Rattle.core_model.specs.declared.cert.Calendar.{Calendar}
 use Rattle.core_model.specs.declared.cert.Weights as weights
 use Rattle.core_model.specs.declared.cert.Cert.TheVariants as certs
 use Rattle.core_cert.specs.Kinds.{is_kind}
 use Rattle.core_cert.specs.Faults.{number_in, place_in, is_refusing}
-use Rattle.core_cert.specs.Stated.{last_number, number_at, numbers_of, calendar_stated, weights_stated, cert_of}
+use Rattle.core_cert.specs.Stated.{last_number, number_at, numbers_of, places_of, calendar_stated, weights_stated, cert_of}
 use Rattle.core_cert.specs.declared.kinds.RecordKind.{RecordKind}
 use Rattle.core_cert.specs.declared.kinds.RecordKind.TheVariants.{Closes, Amount, Loss, Weights, Scenario, Limit, Pool, Full}
 
 -- how many numbers of a kind there are
-numbers-length : (c : CaseView) (rs : List Record) (kind : RecordKind) (n : ℕ) → length (numbers_of c rs kind n) ≡ n
-numbers-length c rs kind n = length-map (below n) (number_at c rs kind) ∙ length-below n
+numbers-length : (c : CaseView) (rs : List Record) (kind : RecordKind) → length (numbers_of c rs kind) ≡ places_of c kind
+numbers-length c rs kind = length-map (below (places_of c kind)) (number_at c rs kind) ∙ length-below (places_of c kind)
 
 -- the number of a place
-number-of-place : (c : CaseView) (rs : List Record) (kind : RecordKind) (n i : ℕ) → i < n → get_or (numbers_of c rs kind n) i (pos 0) ≡ number_at c rs kind i
-number-of-place c rs kind n i within = get_or-below n i (number_at c rs kind) (pos 0) within
+number-of-place : (c : CaseView) (rs : List Record) (kind : RecordKind) (i : ℕ) → i < places_of c kind
+    → get_or (numbers_of c rs kind) i (pos 0) ≡ number_at c rs kind i
+number-of-place c rs kind i within = get_or-below (places_of c kind) i (number_at c rs kind) (pos 0) within
 
 -- without records all numbers are 0
 no-number : (c : CaseView) (kind : RecordKind) (i : ℕ) → number_at c [] kind i ≡ pos 0
 no-number c kind i = refl
 
-numbers-none : (c : CaseView) (kind : RecordKind) (n : ℕ) → replicate n (pos 0) ≡ numbers_of c [] kind n
-numbers-none c kind n = ext_get_or (pos 0) (replicate n (pos 0)) (numbers_of c [] kind n) (length-replicate n (pos 0) ∙ sym (numbers-length c [] kind n)) (λ i h.
+numbers-none : (c : CaseView) (kind : RecordKind) (n : ℕ) → n ≡ places_of c kind → replicate n (pos 0) ≡ numbers_of c [] kind
+numbers-none c kind n size = ext_get_or (pos 0) (replicate n (pos 0)) (numbers_of c [] kind)
+    (length-replicate n (pos 0) ∙ size ∙ sym (numbers-length c [] kind)) (λ i h.
     let within : i < n = omega (arith, h, length-replicate n (pos 0)) in
-    get_or-replicate n i (pos 0) (pos 0) within ∙ sym (number-of-place c [] kind n i within ∙ no-number c kind i))
+    let inside : i < places_of c kind = omega (arith, within, size) in
+    get_or-replicate n i (pos 0) (pos 0) within ∙ sym (number-of-place c [] kind i inside ∙ no-number c kind i))
 
-pub numbers-init : (c : CaseView) (rs : List Record) (kind : RecordKind) (n i count : ℕ) (numbers : List ℤ) → length rs ≤ i → count ≡ n → numbers ≡ replicate count (pos 0)
-    → numbers ≡ numbers_of c (drop i rs) kind n
-numbers-init c rs kind n i count numbers past size is =
-    is ∙ ap (λ m. replicate m (pos 0)) size ∙ numbers-none c kind n ∙ ap (λ xs. numbers_of c xs kind n) (sym (drop_all i rs past))
+pub numbers-init : (c : CaseView) (rs : List Record) (kind : RecordKind) (i count : ℕ) (numbers : List ℤ) → length rs ≤ i
+    → count ≡ places_of c kind → numbers ≡ replicate count (pos 0) → numbers ≡ numbers_of c (drop i rs) kind
+numbers-init c rs kind i count numbers past size is =
+    is ∙ numbers-none c kind count size ∙ ap (λ xs. numbers_of c xs kind) (sym (drop_all i rs past))
 
 -- a record that is found, or a later one
 picked : (b : Bool) (r : Record) (later : Option Record) → last_number (unwrap_or (if b then Some r else later) []) ≡ (if b then last_number r else last_number (unwrap_or later []))
@@ -62,12 +64,12 @@ at-place old p i v w within at = elim (cases_eq p i) [
 ]
 
 -- a record of the kind writes its number, and another leaves the numbers
-pub numbers-step : (c : CaseView) (rs : List Record) (r : Record) (kind : RecordKind) (n : ℕ) (old new : List ℤ) → old ≡ numbers_of c rs kind n
-    → new ≡ (if is_kind kind r then set old (place_in c kind r) (last_number r) else old) → new ≡ numbers_of c (r ∷ rs) kind n
-numbers-step c rs r kind n old new are is = split (is_kind kind r) refl
+pub numbers-step : (c : CaseView) (rs : List Record) (r : Record) (kind : RecordKind) (old new : List ℤ) → old ≡ numbers_of c rs kind
+    → new ≡ (if is_kind kind r then set old (place_in c kind r) (last_number r) else old) → new ≡ numbers_of c (r ∷ rs) kind
+numbers-step c rs r kind old new are is = split (is_kind kind r) refl
   where
-    size : length old ≡ n
-    size = ap length are ∙ numbers-length c rs kind n
+    size : length old ≡ places_of c kind
+    size = ap length are ∙ numbers-length c rs kind
 
     cons : (b : Bool) (i : ℕ) → is_kind kind r ≡ b → number_at c (r ∷ rs) kind i ≡ (if b && (place_in c kind r == i) then last_number r else number_at c rs kind i)
     cons b i e = number-cons c r rs kind i ∙ ap (λ x. if x && (place_in c kind r == i) then last_number r else number_at c rs kind i) e
@@ -75,36 +77,36 @@ numbers-step c rs r kind n old new are is = split (is_kind kind r) refl
     written : (b : Bool) → is_kind kind r ≡ b → new ≡ (if b then set old (place_in c kind r) (last_number r) else old)
     written b e = is ∙ ap (λ x. if x then set old (place_in c kind r) (last_number r) else old) e
 
-    here : (i : ℕ) → i < n → get_or old i (pos 0) ≡ number_at c rs kind i
-    here i within = ap (λ xs. get_or xs i (pos 0)) are ∙ number-of-place c rs kind n i within
+    here : (i : ℕ) → i < places_of c kind → get_or old i (pos 0) ≡ number_at c rs kind i
+    here i within = ap (λ xs. get_or xs i (pos 0)) are ∙ number-of-place c rs kind i within
 
-    split : (b : Bool) → is_kind kind r ≡ b → new ≡ numbers_of c (r ∷ rs) kind n
+    split : (b : Bool) → is_kind kind r ≡ b → new ≡ numbers_of c (r ∷ rs) kind
     split true e =
         written true e
-        ∙ ext_get_or (pos 0) (set old (place_in c kind r) (last_number r)) (numbers_of c (r ∷ rs) kind n)
-        (length-set old (place_in c kind r) (last_number r) ∙ size ∙ sym (numbers-length c (r ∷ rs) kind n)) (λ i h.
-        let within : i < n = omega (arith, h, length-set old (place_in c kind r) (last_number r), size) in
+        ∙ ext_get_or (pos 0) (set old (place_in c kind r) (last_number r)) (numbers_of c (r ∷ rs) kind)
+        (length-set old (place_in c kind r) (last_number r) ∙ size ∙ sym (numbers-length c (r ∷ rs) kind)) (λ i h.
+        let within : i < places_of c kind = omega (arith, h, length-set old (place_in c kind r) (last_number r), size) in
         at-place old (place_in c kind r) i (last_number r) (number_at c rs kind i) (omega (arith, within, size)) (here i within)
-        ∙ sym (number-of-place c (r ∷ rs) kind n i within ∙ cons true i e))
+        ∙ sym (number-of-place c (r ∷ rs) kind i within ∙ cons true i e))
     split false e =
         written false e
-        ∙ ext_get_or (pos 0) old (numbers_of c (r ∷ rs) kind n) (size ∙ sym (numbers-length c (r ∷ rs) kind n)) (λ i h.
-        let within : i < n = omega (arith, h, size) in
-        here i within ∙ sym (number-of-place c (r ∷ rs) kind n i within ∙ cons false i e))
+        ∙ ext_get_or (pos 0) old (numbers_of c (r ∷ rs) kind) (size ∙ sym (numbers-length c (r ∷ rs) kind)) (λ i h.
+        let within : i < places_of c kind = omega (arith, h, size) in
+        here i within ∙ sym (number-of-place c (r ∷ rs) kind i within ∙ cons false i e))
 
 -- the same for the record at hand, where those after it were taken
-pub numbers-at : (c : CaseView) (rows : List Record) (i : ℕ) (r : Record) (kind : RecordKind) (n : ℕ) (old new : List ℤ) → 1 ≤ i → i ≤ length rows → r ≡ get_or rows (i - 1) r
-    → old ≡ numbers_of c (drop i rows) kind n → new ≡ (if is_kind kind r then set old (place_in c kind r) (last_number r) else old)
-    → new ≡ numbers_of c (drop (i - 1) rows) kind n
-numbers-at c rows i r kind n old new from to at are is =
+pub numbers-at : (c : CaseView) (rows : List Record) (i : ℕ) (r : Record) (kind : RecordKind) (old new : List ℤ) → 1 ≤ i → i ≤ length rows → r ≡ get_or rows (i - 1) r
+    → old ≡ numbers_of c (drop i rows) kind → new ≡ (if is_kind kind r then set old (place_in c kind r) (last_number r) else old)
+    → new ≡ numbers_of c (drop (i - 1) rows) kind
+numbers-at c rows i r kind old new from to at are is =
     let next : suc (i - 1) ≡ i = omega arith in
     let left : drop (i - 1) rows ≡ r ∷ drop i rows = drop-cons rows (i - 1) r (omega arith) ∙ ap (λ x. x ∷ drop (suc (i - 1)) rows) (sym at) ∙ ap (λ m. r ∷ drop m rows) next in
-    numbers-step c (drop i rows) r kind n old new are is ∙ ap (λ xs. numbers_of c xs kind n) (sym left)
+    numbers-step c (drop i rows) r kind old new are is ∙ ap (λ xs. numbers_of c xs kind) (sym left)
 
 -- at the end all records were taken
-pub numbers-all : (c : CaseView) (rows : List Record) (i : ℕ) (kind : RecordKind) (n : ℕ) (numbers : List ℤ) → i ≡ 0 → numbers ≡ numbers_of c (drop i rows) kind n
-    → numbers ≡ numbers_of c rows kind n
-numbers-all c rows i kind n numbers e is = is ∙ ap (λ m. numbers_of c (drop m rows) kind n) e
+pub numbers-all : (c : CaseView) (rows : List Record) (i : ℕ) (kind : RecordKind) (numbers : List ℤ) → i ≡ 0 → numbers ≡ numbers_of c (drop i rows) kind
+    → numbers ≡ numbers_of c rows kind
+numbers-all c rows i kind numbers e is = is ∙ ap (λ m. numbers_of c (drop m rows) kind) e
 
 -- tests that agree find the same
 find-same : {X : Type 0} (p q : X → Bool) (xs : List X) → ((x : X) → p x ≡ q x) → find p xs ≡ find q xs
@@ -164,12 +166,12 @@ kept-at : (c : CaseView) (rs : List Record) (kind : RecordKind) (i : ℕ) → Is
 kept-at c rs kind i = kept-last (unwrap_or (find (λ r. is_kind kind r && (place_in c kind r == i)) rs) [])
 
 -- so are the numbers of a kind
-numbers-kept : (c : CaseView) (rs : List Record) (kind : RecordKind) (n : ℕ) → AreKept n (numbers_of c rs kind n)
-numbers-kept c rs kind n = (
-  numbers-length c rs kind n,
+numbers-kept : (c : CaseView) (rs : List Record) (kind : RecordKind) → AreKept (places_of c kind) (numbers_of c rs kind)
+numbers-kept c rs kind = (
+  numbers-length c rs kind,
   λ i d h.
-      let within : i < n = omega (arith, h, numbers-length c rs kind n) in
-      subst IsKept (sym (get_or-below n i (number_at c rs kind) d within)) (kept-at c rs kind i),
+      let within : i < places_of c kind = omega (arith, h, numbers-length c rs kind) in
+      subst IsKept (sym (get_or-below (places_of c kind) i (number_at c rs kind) d within)) (kept-at c rs kind i),
 )
 
 -- what records state fits the case
@@ -179,34 +181,34 @@ cert-fits c rs = split (is_refusing rs)
     split : (b : Bool) → Fits c (if b then certs.Cannot (weights_stated c rs) else certs.Closes (calendar_stated c rs) (number_at c rs Loss 0) (weights_stated c rs))
     split true = record {
       den = kept-at c rs Weights 0;
-      scenario = numbers-kept c rs Scenario (length c.scenarios * suc c.last);
-      limit = numbers-kept c rs Limit (length c.instruments * c.horizon);
-      pool = numbers-kept c rs Pool (length c.pools * c.horizon);
-      full = numbers-kept c rs Full (line_count c);
+      scenario = numbers-kept c rs Scenario;
+      limit = numbers-kept c rs Limit;
+      pool = numbers-kept c rs Pool;
+      full = numbers-kept c rs Full;
     }
     split false = (
-      record { den = kept-at c rs Closes 0; amounts = numbers-kept c rs Amount (line_count c * c.horizon) },
+      record { den = kept-at c rs Closes 0; amounts = numbers-kept c rs Amount },
       kept-at c rs Loss 0,
       record {
         den = kept-at c rs Weights 0;
-        scenario = numbers-kept c rs Scenario (length c.scenarios * suc c.last);
-        limit = numbers-kept c rs Limit (length c.instruments * c.horizon);
-        pool = numbers-kept c rs Pool (length c.pools * c.horizon);
-        full = numbers-kept c rs Full (line_count c);
+        scenario = numbers-kept c rs Scenario;
+        limit = numbers-kept c rs Limit;
+        pool = numbers-kept c rs Pool;
+        full = numbers-kept c rs Full;
       },
     )
 
 -- the calendar of its parts
 pub calendar-is : (c : CaseView) (rs : List Record) (den : ℤ) (amounts : List ℤ) → den ≡ last_number (unwrap_or (find (is_kind Closes) rs) [])
-    → amounts ≡ numbers_of c rs Amount (line_count c * c.horizon) → let x : Calendar = record { den = den; amounts = amounts } in x ≡ calendar_stated c rs
+    → amounts ≡ numbers_of c rs Amount → let x : Calendar = record { den = den; amounts = amounts } in x ≡ calendar_stated c rs
 calendar-is c rs den amounts one many =
     let make : ℤ → List ℤ → Calendar = λ d a. record { den = d; amounts = a } in
     ap (λ d. make d amounts) (one ∙ closes-number c rs) ∙ ap (make (number_at c rs Closes 0)) many
 
 -- the weights of their parts
 pub weights-are : (c : CaseView) (rs : List Record) (den : ℤ) (scenario limit pool full : List ℤ) → den ≡ last_number (unwrap_or (find (is_kind Weights) rs) [])
-    → scenario ≡ numbers_of c rs Scenario (length c.scenarios * suc c.last) → limit ≡ numbers_of c rs Limit (length c.instruments * c.horizon)
-    → pool ≡ numbers_of c rs Pool (length c.pools * c.horizon) → full ≡ numbers_of c rs Full (line_count c)
+    → scenario ≡ numbers_of c rs Scenario → limit ≡ numbers_of c rs Limit
+    → pool ≡ numbers_of c rs Pool → full ≡ numbers_of c rs Full
     → let x : weights.Weights = record { den = den; scenario = scenario; limit = limit; pool = pool; full = full } in x ≡ weights_stated c rs
 weights-are c rs den scenario limit pool full one two three four five =
     let make : ℤ → List ℤ → List ℤ → List ℤ → List ℤ → weights.Weights = λ d s l p f. record { den = d; scenario = s; limit = l; pool = p; full = f } in

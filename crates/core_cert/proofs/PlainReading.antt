@@ -1,5 +1,5 @@
 -- A certificate that refuses and is read has no scenario weight: none of its records is `scenario`.
-use Rattle.std.proofs.Common.{◌≡◌, sym, ◌∙◌, refl, ap, subst, ℕ, suc, ◌*◌, ◌<◌, Ok, List, [], ◌∷◌, ◌++◌, length, Bool, true, false, Option, Some, None, pos, arith}
+use Rattle.std.proofs.Common.{◌≡◌, sym, ◌∙◌, refl, ap, subst, ℕ, suc, ◌<◌, Ok, List, [], ◌∷◌, ◌++◌, length, Bool, true, false, Option, Some, None, pos, arith}
 use Rattle.std.specs.Prelude.{◌&&◌, ◌||◌, ◌==◌, is_some, if◌then◌else◌}
 use Rattle.std.specs.List.{All, find, list_any}
 use Rattle.std.specs.Option.{unwrap_or}
@@ -10,6 +10,7 @@ use Rattle.core_sums.proofs.Lists.{get_or-below, length-below}
 use Rattle.std.proofs.lemmas.List.{length-map}
 use Rattle.core_rows.specs.Names.{Record, field}
 use Rattle.core_book.specs.View.{CaseView}
+use Rattle.core_model.specs.Layout.{scenario_count}
 use Rattle.core_model.specs.declared.cert.Cert as certs
 use Rattle.core_model.specs.declared.cert.Cert.TheVariants as certs_of
 use Rattle.core_cert.specs.declared.kinds.RecordKind.{RecordKind}
@@ -103,7 +104,7 @@ in-order c x xs r none = split (kind_of r) steps.1 steps.2
     split None known later = cc
     split (Some kind) known later =
         holds-from_none (is_follower (is_refusing (x ∷ xs)) (kind_of (last_record (x ∷ xs))) r) OutOfOrder
-        (three-none (order_step (x ∷ xs) r) (fields_fault (forms c.horizon c.last kind) r) (case_fault c (x ∷ xs) kind r) later).0
+        (three-none (order_step (x ∷ xs) r) (fields_fault (forms c kind) r) (case_fault c (x ∷ xs) kind r) later).0
 
 late-next : (c : CaseView) (x : Record) (xs : List Record) (r : Record) → is_refusing (x ∷ xs) ≡ true → IsLate (last_record (x ∷ xs)) → fault_of c (x ∷ xs) r ≡ None → IsLate r
 late-next c x xs r refuses last none = one-late r (followers true last.kind) (followers-late last.kind last.late)
@@ -157,8 +158,9 @@ none-found c p (r ∷ rs) none = skipped (is_kind Scenario r) none.0 ∙ none-fo
     skipped true e = cc
     skipped false e = refl
 
-nought : (c : CaseView) (rs : List Record) (n : ℕ) → NoScenario rs → All (λ z. z ≡ pos 0) (numbers_of c rs Scenario n)
-nought c rs n none i d h =
+nought : (c : CaseView) (rs : List Record) → NoScenario rs → All (λ z. z ≡ pos 0) (numbers_of c rs Scenario)
+nought c rs none i d h =
+    let n = scenario_count c in
     let within : i < n = omega (arith, h, length-map (below n) (number_at c rs Scenario), length-below n) in
     get_or-below n i (number_at c rs Scenario) d within ∙ none-found c i rs none
 
@@ -168,7 +170,7 @@ plain-records c rs sound = split (is_refusing rs) refl
   where
     split : (b : Bool) → is_refusing rs ≡ b
         → IsPlainlyRefusing (if b then certs_of.Cannot (weights_stated c rs) else certs_of.Closes (calendar_stated c rs) (number_at c rs Loss 0) (weights_stated c rs))
-    split true refuses = nought c rs (length c.scenarios * suc c.last) (no-scenarios c rs sound refuses)
+    split true refuses = nought c rs (no-scenarios c rs sound refuses)
     split false refuses = tt
 
 -- so does what is accepted

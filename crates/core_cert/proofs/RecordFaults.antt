@@ -11,10 +11,9 @@ use Rattle.core_cert.specs.declared.faults.RecordFault.{RecordFault}
 use Rattle.core_cert.specs.declared.faults.RecordFault.TheVariants.{AfterEnd}
 use Rattle.core_rows.proofs.FirstStep.{first_of-fails, first_of-passes, first_of-last}
 
--- the fault of the fields, from the days of the case
-pub fields-of : (h l horizon last : ℕ) (kind : RecordKind) (r : Record) → h ≡ horizon → l ≡ last
-    → fields_fault (forms h l kind) r ≡ fields_fault (forms horizon last kind) r
-fields-of h l horizon last kind r days house = ap (λ n. fields_fault (forms n l kind) r) days ∙ ap (λ n. fields_fault (forms horizon n kind) r) house
+-- the fault of the fields, by the case
+pub fields-of : (d c : CaseView) (kind : RecordKind) (r : Record) → d ≡ c → fields_fault (forms d kind) r ≡ fields_fault (forms c kind) r
+fields-of d c kind r is = ap (λ x. fields_fault (forms x kind) r) is
 
 -- a record after the end
 pub after-end : (c : CaseView) (earlier : List Record) (r : Record) → true ≡ is_kind End (last_record earlier) → Some AfterEnd ≡ fault_of c earlier r

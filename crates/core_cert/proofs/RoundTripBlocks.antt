@@ -75,7 +75,7 @@ after-passes c refusing kind next n m before passes after =
 -- a record of a kind at a place with a number
 pub record IsGood (c : CaseView) (kind : RecordKind) (r : Record) (p : ℕ) (z : ℤ) : Type 0 where
   pub is : HasKind kind r
-  pub fields : fields_fault (forms c.horizon c.last kind) r ≡ None
+  pub fields : fields_fault (forms c kind) r ≡ None
   pub name : name_step c kind r ≡ None
   pub line : line_step c kind r ≡ None
   pub place : place_in c kind r ≡ p

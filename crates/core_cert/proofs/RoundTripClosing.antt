@@ -1,5 +1,5 @@
 -- The text of a calendar and its weights is read as these.
-use Rattle.std.proofs.Common.{◌≡◌, ◌∷◌, ◌++◌, ◌∙◌, [], ℕ, suc, ◌*◌, ℤ, List, length, append_assoc, false, None, Ok, refl, ap, inr, codes, arith}
+use Rattle.std.proofs.Common.{◌≡◌, ◌∷◌, ◌++◌, ◌∙◌, [], ℕ, ℤ, List, append_assoc, false, None, Ok, refl, ap, inr, codes, arith}
 use Rattle.std.specs.List.{find}
 use Rattle.core_sums.specs.Places.{at}
 use Rattle.core_rows.specs.Names.{Record}
@@ -7,14 +7,13 @@ use Rattle.core_rows.specs.Written.{rows_text}
 use Rattle.core_book.specs.View.{CaseView}
 use Rattle.core_book.specs.Kept.{IsCase}
 use Rattle.core_model.specs.declared.cert.Calendar.{Calendar}
-use Rattle.core_model.specs.Closing.{line_count}
+use Rattle.core_model.specs.Layout.{amount_count, plan_of, scenario_count}
 use Rattle.core_model.specs.Fits.{CalendarFits, IsKept, WeightsFit}
 use Rattle.core_cert.specs.declared.kinds.RecordKind.{RecordKind}
 use Rattle.core_cert.specs.declared.kinds.RecordKind.TheVariants.{Closes, Amount, Loss, Weights, Scenario, Limit, Pool, Full}
 use Rattle.core_cert.specs.Stated.{cert_of_bytes, calendar_stated, number_at, numbers_of, weights_stated}
-use Rattle.core_cert.specs.Written.{amount_records, cert_text, floored, full_records, limit_records, pool_records, scenario_records, word_record}
+use Rattle.core_cert.specs.Written.{amount_records, cert_text, first_record, floored, full_records, limit_records, pool_records, scenario_records, word_record}
 use Rattle.core_cert.proofs.RoundTripOrder.{amount_loss, same_kind, scenario_limit}
-use Rattle.core_cert.proofs.RoundTripSound.{first_record}
 use Rattle.core_cert.proofs.RoundTripBlocks.{States, is_at, none-append, others-none, states-left, states-number, states-right}
 use Rattle.core_cert.proofs.RoundTripFields.{number_in-kept}
 use Rattle.core_cert.proofs.RoundTripRest.{IsRest, rest-append, the_end}
@@ -33,10 +32,10 @@ abbrev losses_on : CaseView → ℤ → weights.Weights → List Record
 losses_on c loss w = word_record (codes "loss") loss ∷ word_record (codes "margin") (floored loss) ∷ word_record (codes "weights") w.den ∷ scenarios_on c w
 
 abbrev closing_list : CaseView → Calendar → ℤ → weights.Weights → List Record
-closing_list c x loss w = amount_records c x ++ losses_on c loss w
+closing_list c x loss w = amount_records c (plan_of c x) ++ losses_on c loss w
 
 abbrev closing_rows : CaseView → Calendar → ℤ → weights.Weights → List Record
-closing_rows c x loss w = first_record ∷ word_record (codes "closes") x.den ∷ closing_list c x loss w
+closing_rows c x loss w = first_record c ∷ word_record (codes "closes") x.den ∷ closing_list c x loss w
 
 closing-flat : (first closes loss margin den : Record) (amounts scenarios limits pools fulls last : List Record)
     → first ∷ ((closes ∷ (amounts ++ (loss ∷ margin ∷ den ∷ []) ++ scenarios ++ (limits ++ pools ++ fulls))) ++ last)
@@ -46,10 +45,10 @@ closing-flat first closes loss margin den amounts scenarios limits pools fulls l
 -- what may follow the first two records
 closing-rest : (c : CaseView) (x : Calendar) (loss : ℤ) (w : weights.Weights) → IsCase c → CalendarFits c x → IsKept loss → WeightsFit c w → IsRest c false Amount (closing_list c x loss w)
 closing-rest c x loss w kept calendar sized fits =
-    rest-append c false Amount Loss (at x.amounts) (line_count c * c.horizon) (amount_records c x) (losses_on c loss w) amount_loss (amounts-block c x kept calendar)
+    rest-append c false Amount Loss (at x.amounts) (amount_count c) (amount_records c (plan_of c x)) (losses_on c loss w) amount_loss (amounts-block c x kept calendar)
     (loss-rest c loss (word_record (codes "weights") w.den ∷ scenarios_on c w) sized
     (den-rest c false Scenario w.den (scenarios_on c w) refl refl fits.den
-    (rest-append c false Scenario Limit (at w.scenario) (length c.scenarios * suc c.last) (scenario_records c w) (limits_on c w) scenario_limit (scenarios-block c w kept fits) (limits-rest c false w kept fits))))
+    (rest-append c false Scenario Limit (at w.scenario) (scenario_count c) (scenario_records c w) (limits_on c w) scenario_limit (scenarios-block c w kept fits) (limits-rest c false w kept fits))))
 
 -- a kind that has no record after the weights' denominator, one that has none among the amounts, and one that has none
 -- before the limits
@@ -61,7 +60,7 @@ none-after c w kind p kept fits differs none =
 past-amounts : (c : CaseView) (x : Calendar) (loss : ℤ) (w : weights.Weights) (kind : RecordKind) (p : ℕ) (z : ℤ) → IsCase c → CalendarFits c x → same_kind kind Amount ≡ false
     → States (is_at c kind p) (losses_on c loss w) z → States (is_at c kind p) (closing_list c x loss w) z
 past-amounts c x loss w kind p z kept calendar differs =
-    states-right (is_at c kind p) (amount_records c x) (losses_on c loss w) z (others-none c kind Amount p (amount_records c x) (amounts-block c x kept calendar).kinds differs)
+    states-right (is_at c kind p) (amount_records c (plan_of c x)) (losses_on c loss w) z (others-none c kind Amount p (amount_records c (plan_of c x)) (amounts-block c x kept calendar).kinds differs)
 
 past-scenarios : (c : CaseView) (w : weights.Weights) (kind : RecordKind) (p : ℕ) (z : ℤ) → IsCase c → WeightsFit c w → same_kind kind Scenario ≡ false
     → States (is_at c kind p) (limits_on c w) z → States (is_at c kind p) (scenarios_on c w) z
@@ -70,9 +69,9 @@ past-scenarios c w kind p z kept fits differs =
 
 -- the amounts
 closing-amounts : (c : CaseView) (x : Calendar) (loss : ℤ) (w : weights.Weights) → IsCase c → CalendarFits c x → WeightsFit c w
-    → numbers_of c (closing_rows c x loss w) Amount (line_count c * c.horizon) ≡ x.amounts
-closing-amounts c x loss w kept calendar fits = numbers-stated c (closing_rows c x loss w) Amount (line_count c * c.horizon) x.amounts calendar.amounts.0
-    (λ p small. states-left (is_at c Amount p) (amount_records c x) (losses_on c loss w) (at x.amounts p) ((amounts-block c x kept calendar).within p (omega arith) small)
+    → numbers_of c (closing_rows c x loss w) Amount ≡ x.amounts
+closing-amounts c x loss w kept calendar fits = numbers-stated c (closing_rows c x loss w) Amount x.amounts calendar.amounts.0
+    (λ p small. states-left (is_at c Amount p) (amount_records c (plan_of c x)) (losses_on c loss w) (at x.amounts p) ((amounts-block c x kept calendar).within p (omega arith) small)
     (none-after c w Amount p kept fits refl (no-limits c false w Amount p kept fits refl refl refl refl)))
 
 -- the loss
@@ -85,15 +84,15 @@ closing-weights : (c : CaseView) (x : Calendar) (loss : ℤ) (w : weights.Weight
 closing-weights c x loss w kept calendar fits = same-weights w _ _ _ _ _
     (states-number c Weights 0 (closing_rows c x loss w) w.den
     (past-amounts c x loss w Weights 0 w.den kept calendar refl (inr (word_record (codes "weights") w.den, refl, number_in-kept w.den fits.den))))
-    (numbers-stated c (closing_rows c x loss w) Scenario (length c.scenarios * suc c.last) w.scenario fits.scenario.0
+    (numbers-stated c (closing_rows c x loss w) Scenario w.scenario fits.scenario.0
     (λ p small. past-amounts c x loss w Scenario p (at w.scenario p) kept calendar refl
     (states-left (is_at c Scenario p) (scenario_records c w) (limits_on c w) (at w.scenario p) ((scenarios-block c w kept fits).within p (omega arith) small)
     (no-limits c false w Scenario p kept fits refl refl refl refl))))
-    (numbers-stated c (closing_rows c x loss w) Limit (length c.instruments * c.horizon) w.limit fits.limit.0
+    (numbers-stated c (closing_rows c x loss w) Limit w.limit fits.limit.0
     (λ p small. past-amounts c x loss w Limit p (at w.limit p) kept calendar refl (past-scenarios c w Limit p (at w.limit p) kept fits refl (limit-stated c false w p kept fits small))))
-    (numbers-stated c (closing_rows c x loss w) Pool (length c.pools * c.horizon) w.pool fits.pool.0
+    (numbers-stated c (closing_rows c x loss w) Pool w.pool fits.pool.0
     (λ p small. past-amounts c x loss w Pool p (at w.pool p) kept calendar refl (past-scenarios c w Pool p (at w.pool p) kept fits refl (pool-stated c false w p kept fits small))))
-    (numbers-stated c (closing_rows c x loss w) Full (line_count c) w.full fits.full.0
+    (numbers-stated c (closing_rows c x loss w) Full w.full fits.full.0
     (λ p small. past-amounts c x loss w Full p (at w.full p) kept calendar refl (past-scenarios c w Full p (at w.full p) kept fits refl (full-stated c false w p kept fits small))))
 
 same-closing : (x y : Calendar) (loss other : ℤ) (w v : weights.Weights) → x ≡ y → loss ≡ other → w ≡ v → certs_of.Closes x loss w ≡ certs_of.Closes y other v
@@ -102,8 +101,8 @@ same-closing x y loss other w v a b d = rw (a, b, d) refl
 pub closing-read : (c : CaseView) (x : Calendar) (loss : ℤ) (w : weights.Weights) → IsCase c → CalendarFits c x → IsKept loss → WeightsFit c w
     → cert_of_bytes c (cert_text c (certs_of.Closes x loss w)) ≡ Ok (certs_of.Closes x loss w)
 closing-read c x loss w kept calendar sized fits =
-    ap (λ rs. cert_of_bytes c (rows_text rs)) (closing-flat first_record (word_record (codes "closes") x.den) (word_record (codes "loss") loss) (word_record (codes "margin") (floored loss))
-    (word_record (codes "weights") w.den) (amount_records c x) (scenario_records c w) (limit_records c w) (pool_records c w) (full_records c w) the_end)
+    ap (λ rs. cert_of_bytes c (rows_text rs)) (closing-flat (first_record c) (word_record (codes "closes") x.den) (word_record (codes "loss") loss) (word_record (codes "margin") (floored loss))
+    (word_record (codes "weights") w.den) (amount_records c (plan_of c x)) (scenario_records c w) (limit_records c w) (pool_records c w) (full_records c w) the_end)
     ∙ whole-read c false Closes Amount (word_record (codes "closes") x.den) x.den (closing_list c x loss w) (certs_of.Closes x loss w) refl refl refl refl refl
     (closes-good c x.den calendar.den) (closing-rest c x loss w kept calendar sized fits)
     (same-closing (calendar_stated c (closing_rows c x loss w)) x (number_at c (closing_rows c x loss w) Loss 0) loss (weights_stated c (closing_rows c x loss w)) w

@@ -1,5 +1,5 @@
 -- The fields of a printed record have the forms of its kind.
-use Rattle.std.proofs.Common.{◌≡◌, ◌∷◌, ◌∙◌, [], ℕ, suc, ◌≤◌, ℤ, pos, negsuc, List, length, true, false, Some, None, refl, ap, decimal, arith}
+use Rattle.std.proofs.Common.{◌≡◌, ◌∷◌, ◌∙◌, [], ℕ, suc, ◌≤◌, min, ℤ, pos, negsuc, List, length, true, false, Some, None, refl, ap, decimal, arith}
 use Rattle.std.specs.Prelude.{not, ◌&&◌, ◌==◌, nat_le, is_some, int_le, unsigned_abs, if◌then◌else◌}
 use Rattle.std.specs.List.{list_all}
 use Rattle.std.specs.Option.{option_or, unwrap_or}
@@ -13,7 +13,7 @@ use Rattle.core_book.specs.declared.parts.Side.{Side}
 use Rattle.core_book.specs.declared.parts.Side.TheVariants.{Position, Collateral}
 use Rattle.core_model.specs.Fits.{IsKept}
 use Rattle.core_cert.specs.declared.forms.Form.{Form}
-use Rattle.core_cert.specs.declared.forms.Form.TheVariants.{Name, SideWord, Day, Numerator, NotZero}
+use Rattle.core_cert.specs.declared.forms.Form.TheVariants.{Name, SideWord, Number, Numerator, NotZero}
 use Rattle.core_cert.specs.declared.faults.RecordFault.TheVariants.{FieldCount, NotAName, NotANumber, OutOfRange}
 use Rattle.core_cert.specs.Written.{side_word}
 use Rattle.core_cert.specs.Faults.{fields_fault, form_fault, number_in, range_fault}
@@ -68,8 +68,8 @@ number_in-kept z kept = ap (λ o. unwrap_or o (pos 0)) (kept-read z kept)
 pub day-read : (u : ℕ) → u ≤ 40 → wide (decimal u) ≡ Some (pos u)
 day-read u small = kept-read (pos u) (omega (arith, small))
 
-pub day-number : (u : ℕ) → u ≤ 40 → unsigned_abs (number_in (decimal u)) ≡ u
-day-number u small = ap (λ o. unsigned_abs (unwrap_or o (pos 0))) (day-read u small)
+pub day-number : (u : ℕ) → u ≤ 40 → min (unsigned_abs (number_in (decimal u))) 255 ≡ u
+day-number u small = ap (λ o. min (unsigned_abs (unwrap_or o (pos 0))) 255) (day-read u small) ∙ omega (arith, small)
 
 -- the forms of the words
 pub fit-name : (name : List ℕ) → IsName name → IsFit Name name
@@ -94,7 +94,7 @@ fit-not_zero z kept other = (
 int_le-pos : (m n : ℕ) → m ≤ n → int_le (pos m) (pos n) ≡ true
 int_le-pos m n low = grind (arith, ints)
 
-pub fit-day : (first last u : ℕ) → first ≤ u → u ≤ last → u ≤ 40 → IsFit (Day first last) (decimal u)
+pub fit-day : (first last u : ℕ) → first ≤ u → u ≤ last → u ≤ 40 → IsFit (Number first last) (decimal u)
 fit-day first last u low high small = (
   ap (λ o. fault_unless (is_some o) NotANumber) (day-read u small),
   ap (λ n. fault_unless (int_le (pos first) n && int_le n (pos last)) OutOfRange) (number_in-kept (pos u) (omega (arith, small)))

@@ -2,12 +2,15 @@
 use Rattle.std.proofs.Common.{◌≡◌, ◌∷◌, ◌++◌, ◌∙◌, [], suc, ◌-◌, List, length, length-append, Bool, true, false, Option, Some, None, refl, ap, codes, arith}
 use Rattle.std.specs.Prelude.{not, ◌||◌, nat_lt, is_some, if◌then◌else◌}
 use Rattle.std.specs.List.{list_any}
+use Rattle.std.specs.Option.{option_or}
 use Rattle.std.specs.Str.{bytes_eq}
 use Rattle.std.proofs.lemmas.List.{get_or_push}
 use Rattle.core_rows.specs.Names.{Record}
-use Rattle.core_book.specs.View.{CaseView}
+use Rattle.core_book.specs.View.{CaseView, is_tiered}
 use Rattle.core_cert.specs.declared.kinds.RecordKind.{RecordKind}
 use Rattle.core_cert.specs.declared.kinds.RecordKind.TheVariants.{Cannot, Margin, End}
+use Rattle.core_cert.specs.declared.forms.Form.TheVariants.{Version}
+use Rattle.core_cert.specs.Written.{first_record, version_word}
 use Rattle.core_cert.specs.declared.faults.RecordFault.{RecordFault}
 use Rattle.core_cert.specs.declared.faults.RecordFault.TheVariants.{OutOfOrder, UnknownKind, AfterEnd, NotRising, EndMissing}
 use Rattle.core_cert.specs.Kinds.{kind_of, is_kind, followers, forms, word_of}
@@ -22,7 +25,7 @@ pub record IsSound (c : CaseView) (refusing : Bool) (before r : Record) : Type 0
   pub is : HasKind kind r
   pub after : HasKind last before
   pub follows : can_follow refusing last kind ≡ true
-  pub fields : fields_fault (forms c.horizon c.last kind) r ≡ None
+  pub fields : fields_fault (forms c kind) r ≡ None
   pub name : name_step c kind r ≡ None
   pub line : line_step c kind r ≡ None
   pub key : (not (is_kind kind before) || nat_lt (place_in c kind before) (place_in c kind r)) ≡ true
@@ -108,7 +111,7 @@ sound_record c refusing x xs before r form last sound = first_of-three (end_befo
 
     later : later_fault c (x ∷ xs) r (kind_of r) ≡ None
     later = ap (later_fault c (x ∷ xs) r) kind
-        ∙ first_of-three (order_step (x ∷ xs) r) (fields_fault (forms c.horizon c.last sound.kind) r) (case_fault c (x ∷ xs) sound.kind r) order sound.fields of_case
+        ∙ first_of-three (order_step (x ∷ xs) r) (fields_fault (forms c sound.kind) r) (case_fault c (x ∷ xs) sound.kind r) order sound.fields of_case
 
 -- the records after one without a fault
 abbrev pub after_fault : CaseView → List Record → Record → List Record → Option RecordFault → Option Faulty
@@ -144,18 +147,20 @@ sound_records c refusing x y xs before (r ∷ rs) form last sound end =
     ∙ sound_records c refusing x y (xs ++ (r ∷ [])) r rs form (last-put (x ∷ y ∷ xs) r) sound.1 end
 
 -- the first record has no fault
-abbrev pub first_record : Record
-first_record = codes "cert" ∷ codes "1" ∷ []
-
-first-sound : (c : CaseView) → fault_of c [] first_record ≡ None
+version-sound : (tiered : Bool) → fields_fault (Version tiered ∷ []) (codes "cert" ∷ version_word tiered ∷ []) ≡ None
 unfolding first_of by_form
-first-sound c = refl
+version-sound true = refl
+version-sound false = refl
+
+first-sound : (c : CaseView) → fault_of c [] (first_record c) ≡ None
+unfolding first_of
+first-sound c = ap (λ o. option_or (option_or o None) None) (version-sound (is_tiered c))
 
 -- nor have the first, the second and those after it
 pub sound_text : (c : CaseView) (refusing : Bool) (second : Record) (rest : List Record)
-    → is_kind Cannot second ≡ refusing → IsSound c false first_record second → AreSound c refusing second rest → HasKind End (last_after second rest)
-    → first_fault c (first_record ∷ second ∷ rest) ≡ None
+    → is_kind Cannot second ≡ refusing → IsSound c false (first_record c) second → AreSound c refusing second rest → HasKind End (last_after second rest)
+    → first_fault c (first_record c ∷ second ∷ rest) ≡ None
 sound_text c refusing second rest form sound later end =
-    next_fault c [] first_record (second ∷ rest) (first-sound c)
-    ∙ next_fault c (first_record ∷ []) second rest (sound_record c false first_record [] first_record second refl refl sound)
-    ∙ sound_records c refusing first_record second [] second rest form refl later end
+    next_fault c [] (first_record c) (second ∷ rest) (first-sound c)
+    ∙ next_fault c (first_record c ∷ []) second rest (sound_record c false (first_record c) [] (first_record c) second refl refl sound)
+    ∙ sound_records c refusing (first_record c) second [] second rest form refl later end

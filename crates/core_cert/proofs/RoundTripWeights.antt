@@ -1,5 +1,5 @@
 -- The weights of limits, pools and full closings that the last records of a certificate state.
-use Rattle.std.proofs.Common.{◌≡◌, ◌∷◌, ◌++◌, [], ℕ, ◌*◌, ◌<◌, List, length, Bool, false, None, refl, codes, arith}
+use Rattle.std.proofs.Common.{◌≡◌, ◌∷◌, ◌++◌, [], ℕ, ◌<◌, List, Bool, false, None, refl, codes, arith}
 use Rattle.std.specs.List.{find}
 use Rattle.std.proofs.lemmas.List.Elements.{All-cons, All-nil}
 use Rattle.core_sums.specs.Places.{at}
@@ -7,6 +7,7 @@ use Rattle.core_rows.specs.Names.{Record}
 use Rattle.core_book.specs.View.{CaseView}
 use Rattle.core_book.specs.Kept.{IsCase}
 use Rattle.core_model.specs.Closing.{line_count}
+use Rattle.core_model.specs.Layout.{limit_count, pool_count}
 use Rattle.core_model.specs.Fits.{WeightsFit}
 use Rattle.core_cert.specs.declared.kinds.RecordKind.{RecordKind}
 use Rattle.core_cert.specs.declared.kinds.RecordKind.TheVariants.{Limit, Pool, Full, End}
@@ -30,16 +31,16 @@ limits_on c w = limit_records c w ++ pools_on c w
 -- they may stand where limits may
 pub limits-rest : (c : CaseView) (refusing : Bool) (w : weights.Weights) → IsCase c → WeightsFit c w → IsRest c refusing Limit (limits_on c w)
 limits-rest c refusing w kept fits =
-    rest-append c refusing Limit Pool (at w.limit) (length c.instruments * c.horizon) (limit_records c w) (pools_on c w) (limit_pool refusing) (limits-block c refusing w kept fits)
-    (rest-append c refusing Pool Full (at w.pool) (length c.pools * c.horizon) (pool_records c w) (fulls_on c w) (pool_full refusing) (pools-block c refusing w kept fits)
+    rest-append c refusing Limit Pool (at w.limit) (limit_count c) (limit_records c w) (pools_on c w) (limit_pool refusing) (limits-block c refusing w kept fits)
+    (rest-append c refusing Pool Full (at w.pool) (pool_count c) (pool_records c w) (fulls_on c w) (pool_full refusing) (pools-block c refusing w kept fits)
     (rest-append c refusing Full End (at w.full) (line_count c) (full_records c w) the_end (full_end refusing) (fulls-block c refusing w kept fits) (rest-end c refusing)))
 
 -- a section has no record of another kind
 no-limit : (c : CaseView) (refusing : Bool) (w : weights.Weights) (kind : RecordKind) (p : ℕ) → IsCase c → WeightsFit c w → same_kind kind Limit ≡ false → find (is_at c kind p) (limit_records c w) ≡ None
-no-limit c refusing w kind p kept fits = block-others c refusing kind Limit (at w.limit) 0 (length c.instruments * c.horizon) p (limit_records c w) (limits-block c refusing w kept fits)
+no-limit c refusing w kind p kept fits = block-others c refusing kind Limit (at w.limit) 0 (limit_count c) p (limit_records c w) (limits-block c refusing w kept fits)
 
 no-pool : (c : CaseView) (refusing : Bool) (w : weights.Weights) (kind : RecordKind) (p : ℕ) → IsCase c → WeightsFit c w → same_kind kind Pool ≡ false → find (is_at c kind p) (pool_records c w) ≡ None
-no-pool c refusing w kind p kept fits = block-others c refusing kind Pool (at w.pool) 0 (length c.pools * c.horizon) p (pool_records c w) (pools-block c refusing w kept fits)
+no-pool c refusing w kind p kept fits = block-others c refusing kind Pool (at w.pool) 0 (pool_count c) p (pool_records c w) (pools-block c refusing w kept fits)
 
 no-full : (c : CaseView) (refusing : Bool) (w : weights.Weights) (kind : RecordKind) (p : ℕ) → IsCase c → WeightsFit c w → same_kind kind Full ≡ false → find (is_at c kind p) (full_records c w) ≡ None
 no-full c refusing w kind p kept fits = block-others c refusing kind Full (at w.full) 0 (line_count c) p (full_records c w) (fulls-block c refusing w kept fits)
@@ -63,12 +64,12 @@ no-limits c refusing w kind p kept fits limit pool full end =
     none-append (is_at c kind p) (limit_records c w) (pools_on c w) (no-limit c refusing w kind p kept fits limit) (no-pools c refusing w kind p kept fits pool full end)
 
 -- they state the weights
-pub limit-stated : (c : CaseView) (refusing : Bool) (w : weights.Weights) (p : ℕ) → IsCase c → WeightsFit c w → p < length c.instruments * c.horizon
+pub limit-stated : (c : CaseView) (refusing : Bool) (w : weights.Weights) (p : ℕ) → IsCase c → WeightsFit c w → p < limit_count c
     → States (is_at c Limit p) (limits_on c w) (at w.limit p)
 limit-stated c refusing w p kept fits small =
     states-left (is_at c Limit p) (limit_records c w) (pools_on c w) (at w.limit p) ((limits-block c refusing w kept fits).within p (omega arith) small) (no-pools c refusing w Limit p kept fits refl refl refl)
 
-pub pool-stated : (c : CaseView) (refusing : Bool) (w : weights.Weights) (p : ℕ) → IsCase c → WeightsFit c w → p < length c.pools * c.horizon
+pub pool-stated : (c : CaseView) (refusing : Bool) (w : weights.Weights) (p : ℕ) → IsCase c → WeightsFit c w → p < pool_count c
     → States (is_at c Pool p) (limits_on c w) (at w.pool p)
 pool-stated c refusing w p kept fits small =
     states-right (is_at c Pool p) (limit_records c w) (pools_on c w) (at w.pool p) (no-limit c refusing w Pool p kept fits refl)

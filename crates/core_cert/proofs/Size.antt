@@ -24,7 +24,7 @@ number_text-short (negsuc n) kept =
     let digits : length (decimal (suc n)) ≤ 39 = length-decimal-le_wide 39 (suc n) (lit< tt) (omega (arith, kept)) (omega (arith, kept)) in
     omega (arith, digits)
 
--- the bytes of rows of two, four and five fields
+-- the bytes of rows of two, four, five and six fields
 pub row_text-two : (a b : List ℕ) → length (row_text (a ∷ b ∷ [])) ≡ length a + length b + 2
 row_text-two a b = simp length-append (omega arith)
 
@@ -33,6 +33,9 @@ row_text-four a b c d = simp length-append (omega arith)
 
 pub row_text-five : (a b c d e : List ℕ) → length (row_text (a ∷ b ∷ c ∷ d ∷ e ∷ [])) ≡ length a + length b + length c + length d + length e + 5
 row_text-five a b c d e = simp length-append (omega arith)
+
+pub row_text-six : (a b c d e f : List ℕ) → length (row_text (a ∷ b ∷ c ∷ d ∷ e ∷ f ∷ [])) ≡ length a + length b + length c + length d + length e + length f + 6
+row_text-six a b c d e f = simp length-append (omega arith)
 
 -- a record that ends with a number takes no more than its row would
 pub numbered-short : (fields : Record) (z : ℤ) (n : ℕ) → length (row_text (fields ++ (number_text z ∷ []))) ≤ n

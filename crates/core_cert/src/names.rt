@@ -318,11 +318,13 @@ impl<'a> CaseNames<'a> {
     pub(crate) fn places(&self, kind: RecordKind) -> usize
         ensures { result ≡ places_of self.now kind }
     {
+        // Every case keeps how many of each there may be.
+        let horizon = self.case.horizon();
         match kind {
             RecordKind::Amount => self.closings(self.case.lines()),
             RecordKind::Scenario => cells(self.case.scenarios(), self.case.last() + 1),
             RecordKind::Limit => self.closings(self.case.instruments()),
-            RecordKind::Pool => cells(self.case.pools(), self.case.horizon()),
+            RecordKind::Pool => cells(self.case.pools(), horizon),
             RecordKind::Full => self.case.lines(),
             _ => 0,
         }

@@ -10,13 +10,11 @@ pub returns-in-Some-fields_fault : goal.returns-in-Some-fields_fault
 returns-in-Some-fields_fault c =
     first_of-passes (Some c.in-Some-fields_fault.fault) _ _ c.in_default.ensures
     (first_of-fails c.in-Some-fields_fault.fault _ _
-    (c.in-Some-fields_fault.ensures ∙ fields-of c.spans.result.horizon c.spans.result.last c.args.names.now.horizon c.args.names.now.last c.args.kind c.args.row.now
-    c.spans.ensures.horizon c.spans.ensures.last))
+    (c.in-Some-fields_fault.ensures ∙ fields-of c.case.result.now c.args.names.now c.args.kind c.args.row.now c.case.ensures))
 
 pub returns : goal.returns
 returns c =
     first_of-passes c.case_fault.result _ _ c.in_default.ensures
     (first_of-passes c.case_fault.result _ _
-    (c.in_default-fields_fault.ensures ∙ fields-of c.spans.result.horizon c.spans.result.last c.args.names.now.horizon c.args.names.now.last c.args.kind c.args.row.now
-    c.spans.ensures.horizon c.spans.ensures.last)
+    (c.in_default-fields_fault.ensures ∙ fields-of c.case.result.now c.args.names.now c.args.kind c.args.row.now c.case.ensures)
     (first_of-last c.case_fault.result _ c.case_fault.ensures))

@@ -1,8 +1,9 @@
 use Rattle.std.proofs.Common.{◌≡◌, ◌++◌, ◌-◌}
 use Rattle.core_sums.specs.Places.{days_to, each}
 use Rattle.core_rows.specs.Written.{rows_text}
-use Rattle.core_cert.specs.Written.{amount_on}
+use Rattle.core_model.specs.Layout.{plan_of}
+use Rattle.core_cert.specs.Written.{day_amounts}
 use Rattle.core_cert.proofs.write.put_line_amounts.Given as goal
 
 abbrev pub invariant-loop-u : goal.invariant-loop-u
-invariant-loop-u l = l.out.items ≡ l.fn.out.items ++ rows_text (each (days_to (l.u - 1)) (amount_on l.case l.calendar l.l))
+invariant-loop-u l = l.out.items ≡ l.fn.out.items ++ rows_text (each (days_to (l.u - 1)) (day_amounts l.case (plan_of l.case l.calendar) l.l))

@@ -10,5 +10,5 @@ loop-p-init c = none_below (pool_days c.args.case.now c.args.weights.now) c.args
 pub loop-p-preserved : goal.loop-p-preserved
 loop-p-preserved c =
     let f = pool_days c.args.case.now c.args.weights.now in
-    let e : c.put_closing_days.new.out.items ≡ c.loop-p.out.items ++ rows_text (f c.loop-p.p) = search rules in
+    let e : c.put_pool_days.new.out.items ≡ c.loop-p.out.items ++ rows_text (f c.loop-p.p) = search rules in
     one_more c.loop-p.p f _ _ _ c.loop-p.invariant e

@@ -1,20 +1,19 @@
-use Rattle.std.proofs.Common.{rules, ◌≡◌, ◌++◌, ◌∷◌, ◌∙◌, [], ap, codes, pos, FitsSigned}
+use Rattle.std.proofs.Common.{rules, ◌≡◌, ◌++◌, ◌∷◌, ◌∙◌, [], ap, codes, FitsSigned}
 use Rattle.std.specs.Int.{w128}
 use Rattle.std.proofs.lemmas.Int.{to_z-of_z}
 use Rattle.core_rows.specs.Fields.{row_text}
-use Rattle.core_rows.specs.Names.{Record}
 use Rattle.core_rows.specs.Written.{rows_text}
-use Rattle.core_cert.specs.Written.{cert_text, inner_records, word_record}
+use Rattle.core_cert.specs.Written.{cert_text, first_record, inner_records}
 use Rattle.core_cert.proofs.CertSize.{cert_text-short}
-use Rattle.core_cert.proofs.Joined.{cert_joined, version_one}
+use Rattle.core_cert.proofs.Joined.{cert_joined}
 use Rattle.core_cert.proofs.write.write_cert.Goals as goal
 use Rattle.core_cert.proofs.write.write_cert.Goals.{in-Closes+in_ok-put_closing-in-Closes, in-Cannot+in_ok-put_refusal-in-Cannot}
 
 text_is : (c : goal.In_ok-put_word) → c.put_word.new.out.items ≡ cert_text c.args.case.now c.args.cert.now
 text_is c =
     let records = inner_records c.args.case.now c.args.cert.now in
-    let first : c.put_number.new.out.items ≡ [] ++ row_text (word_record (codes "cert") (pos 1)) = search rules in
-    let inner : c.match-cert.out.items ≡ c.put_number.new.out.items ++ rows_text records =
+    let first : c.put_first.new.out.items ≡ [] ++ row_text (first_record c.args.case.now) = search rules in
+    let inner : c.match-cert.out.items ≡ c.put_first.new.out.items ++ rows_text records =
     elim c.match-cert.branch [
       | in-Closes+in_ok-put_closing-in-Closes w ↦
           let fits : FitsSigned w128 w.in-Closes.loss = search rules in
@@ -23,8 +22,8 @@ text_is c =
     ] in
     let last : c.put_word.new.out.items ≡ c.match-cert.out.items ++ row_text (codes "end" ∷ []) = search rules in
     last
-    ∙ ap (λ t. t ++ row_text (codes "end" ∷ [])) (inner ∙ ap (λ t. t ++ rows_text records) (first ∙ ap (λ (r : Record). [] ++ row_text r) version_one))
-    ∙ cert_joined (codes "cert" ∷ codes "1" ∷ []) (codes "end" ∷ []) records
+    ∙ ap (λ t. t ++ row_text (codes "end" ∷ [])) (inner ∙ ap (λ t. t ++ rows_text records) first)
+    ∙ cert_joined (first_record c.args.case.now) (codes "end" ∷ []) records
 
 pub returns-clause-text : goal.returns-clause-text
 returns-clause-text c = text_is c

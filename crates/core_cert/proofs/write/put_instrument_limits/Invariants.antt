@@ -1,0 +1,8 @@
+use Rattle.std.proofs.Common.{◌≡◌, ◌++◌, ◌-◌}
+use Rattle.core_sums.specs.Places.{days_to, each}
+use Rattle.core_rows.specs.Written.{rows_text}
+use Rattle.core_cert.specs.Written.{day_limits}
+use Rattle.core_cert.proofs.write.put_instrument_limits.Given as goal
+
+abbrev pub invariant-loop-u : goal.invariant-loop-u
+invariant-loop-u l = l.out.items ≡ l.fn.out.items ++ rows_text (each (days_to (l.u - 1)) (day_limits l.case l.weights l.i))
