@@ -1,5 +1,5 @@
 -- The text of a certificate that fits a case takes at most 4,194,304 bytes.
-use Rattle.std.proofs.Common.{◌≡◌, ◌∷◌, ◌++◌, [], ℕ, suc, ◌+◌, ◌*◌, ◌-◌, ◌<◌, ◌≤◌, ℤ, pos, List, Bool, true, false, length, arith, codes, decimal, length-append, lit<, refl, inl, inr, int_lt}
+use Rattle.std.proofs.Common.{◌≡◌, ◌∷◌, ◌++◌, [], ℕ, suc, ◌+◌, ◌*◌, ◌<◌, ◌≤◌, ℤ, pos, List, Bool, true, false, length, arith, codes, decimal, length-append, lit<, refl, inl, inr, int_lt}
 use Rattle.std.proofs.lemmas.Bool.{cases_Bool}
 use Rattle.std.proofs.Math.Nat.{mul-le-mul}
 use Rattle.std.specs.Prelude.{if◌then◌else◌}
@@ -16,7 +16,7 @@ use Rattle.core_model.specs.Layout.{closing_place, limit_weight, plan_of, pool_p
 use Rattle.core_model.specs.declared.cert.Weights.{Weights}
 use Rattle.core_model.specs.declared.cert.Cert.{Cert}
 use Rattle.core_model.specs.declared.cert.Cert.TheVariants.{Closes, Cannot}
-use Rattle.core_model.specs.Fits.{CalendarFits, Fits, IsKept, WeightsFit}
+use Rattle.core_model.specs.Fits.{Fits, IsKept, WeightsFit}
 use Rattle.core_cert.specs.Written.{amount_on, amount_record, amount_records, cert_text, constraint_records, day_record, each_tier, first_record, floored, full_of, full_record, full_records, inner_records, instrument_limits, limit_on, limit_record, limit_records, line_amounts, line_fields, most_bytes, pool_days, pool_on, pool_records, scenario_days, scenario_on, scenario_records, side_word, tier_fields, version_word, word_record}
 use Rattle.core_model.proofs.FewLines.{lines-few}
 use Rattle.core_cert.proofs.Printed.{rows_text-append, rows_text-cons, rows_text-none}

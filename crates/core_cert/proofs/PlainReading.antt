@@ -1,5 +1,5 @@
 -- A certificate that refuses and is read has no scenario weight: none of its records is `scenario`.
-use Rattle.std.proofs.Common.{◌≡◌, sym, ◌∙◌, refl, ap, subst, ℕ, suc, ◌<◌, Ok, List, [], ◌∷◌, ◌++◌, length, Bool, true, false, Option, Some, None, pos, arith}
+use Rattle.std.proofs.Common.{◌≡◌, sym, ◌∙◌, refl, ap, subst, ℕ, ◌<◌, Ok, List, [], ◌∷◌, ◌++◌, length, Bool, true, false, Option, Some, None, pos, arith}
 use Rattle.std.specs.Prelude.{◌&&◌, ◌||◌, ◌==◌, is_some, if◌then◌else◌}
 use Rattle.std.specs.List.{All, find, list_any}
 use Rattle.std.specs.Option.{unwrap_or}

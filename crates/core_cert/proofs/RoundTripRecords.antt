@@ -93,9 +93,16 @@ pub amount-good : (c : CaseView) → IsCase c → (l i k : ℕ) (z : ℤ) → l 
     ((l * c.horizon + i) * tiers c + k) z
 amount-good c kept l i k z under small within fits other = record {
   is = refl;
-  fields = fit-fields (Name ∷ SideWord ∷ Number 1 c.horizon ∷ ending_forms tiered (tiers c)) (codes "amount") (name ∷ side_word side ∷ decimal (suc i) ∷ last)
-      (fit-name name is-name, (fit-side side, (fit-day 1 c.horizon (suc i) (omega arith) (omega (arith, small)) few,
-      ending-fit tiered (tiers c) (suc k) z (omega arith) (omega (arith, within)) tier-few fits other)));
+  fields = fit-fields (Name ∷ SideWord ∷ Number 1 c.horizon ∷ ending_forms tiered (tiers c)) (codes "amount") (name ∷ side_word side ∷ decimal (suc i) ∷ last) (
+    fit-name name is-name,
+    (
+      fit-side side,
+      (
+        fit-day 1 c.horizon (suc i) (omega arith) (omega (arith, small)) few,
+        ending-fit tiered (tiers c) (suc k) z (omega arith) (omega (arith, within)) tier-few fits other,
+      ),
+    ),
+  );
   name = in-case (instrument_names c) j name (codes "amount") (side_word side ∷ decimal (suc i) ∷ last) (instrument-below c j known) (instrument-at c j known);
   line = in-line c r l under named;
   place = closing-at c (line_named c r) (small_in r 3) (tier_in c r 4) l i k named (day-number (suc i) few)
@@ -184,9 +191,13 @@ pub limit-good : (c : CaseView) → IsCase c → (j i k : ℕ) (z : ℤ) → j <
     → IsGood c Limit (codes "limit" ∷ (instrument c j).name ∷ decimal (suc i) ∷ ending (is_tiered c) (suc k) z) ((j * c.horizon + i) * tiers c + k) z
 limit-good c kept j i k z under small within fits other = record {
   is = refl;
-  fields = fit-fields (Name ∷ Number 1 c.horizon ∷ ending_forms tiered (tiers c)) (codes "limit") (name ∷ decimal (suc i) ∷ last)
-      (fit-name name is-name, (fit-day 1 c.horizon (suc i) (omega arith) (omega (arith, small)) few,
-      ending-fit tiered (tiers c) (suc k) z (omega arith) (omega (arith, within)) tier-few fits other));
+  fields = fit-fields (Name ∷ Number 1 c.horizon ∷ ending_forms tiered (tiers c)) (codes "limit") (name ∷ decimal (suc i) ∷ last) (
+    fit-name name is-name,
+    (
+      fit-day 1 c.horizon (suc i) (omega arith) (omega (arith, small)) few,
+      ending-fit tiered (tiers c) (suc k) z (omega arith) (omega (arith, within)) tier-few fits other,
+    ),
+  );
   name = in-case (instrument_names c) j name (codes "limit") (decimal (suc i) ∷ last) below known;
   line = refl;
   place = closing-at c (place_of name (instrument_names c)) (small_in r 2) (tier_in c r 3) j i k

@@ -1,10 +1,9 @@
 -- How long the text of a certificate may be.
-use Rattle.std.proofs.Common.{◌≡◌, ◌∷◌, ◌++◌, [], ℕ, zero, suc, ◌+◌, ◌*◌, ◌<◌, ◌≤◌, ℤ, pos, negsuc, List, length, All, arith, decimal, length-append, inl, inr, lit<, refl}
-use Rattle.std.proofs.lemmas.Bool.{cases_Bool, cases_lt}
+use Rattle.std.proofs.Common.{◌≡◌, ◌∷◌, ◌++◌, [], ℕ, zero, suc, ◌+◌, ◌*◌, ◌<◌, ◌≤◌, ℤ, pos, negsuc, List, length, arith, decimal, length-append, inl, inr, lit<, refl}
+use Rattle.std.proofs.lemmas.Bool.{cases_Bool}
 use Rattle.std.proofs.lemmas.Fmt.{length-decimal-le_wide}
-use Rattle.std.proofs.lemmas.List.{get_or_past}
 use Rattle.std.specs.Ordering.{int_eq}
-use Rattle.core_sums.specs.Places.{at, below, days_to, each}
+use Rattle.core_sums.specs.Places.{below, days_to, each}
 use Rattle.core_rows.specs.Fields.{number_text, row_text}
 use Rattle.core_rows.specs.Names.{Record}
 use Rattle.core_rows.specs.Written.{rows_text}
