@@ -1,18 +1,17 @@
 -- The due flows, flow by flow.
 use Rattle.std.proofs.Common.{◌≡◌, ◌≢◌, refl, sym, ◌∙◌, ap, subst, ℕ, zero, suc, ◌+◌, ◌-◌, ◌<◌, ◌≤◌, ◌⊎◌, inl, inr, arith, ℤ, Bool, true, false, ◌==◌, List, [], ◌∷◌, ◌++◌, length, map, append_assoc, slice_set, length-set, replicate, Option, Some, None, if◌then◌else◌}
 use Rattle.std.specs.List.{filter}
-use Rattle.std.proofs.lemmas.List.{map-append, get_or-set_same, get_or-set_other, get_or-replicate, length-replicate}
-use Rattle.std.proofs.lemmas.List.Elements.{filter-append}
+use Rattle.std.proofs.lemmas.List.{get_or-set_same, get_or-set_other, get_or-replicate, length-replicate}
 use Rattle.std.proofs.lemmas.Bool.{eq-eqb, eqb-true, ne_eqb}
 use Rattle.core_sums.specs.Places.{below, days_to, each, row_at}
 use Rattle.core_book.specs.View.{CaseView, instrument_of, is_open, instrument, pays}
-use Rattle.core_model.specs.Closing.{Amounts, line_count, flow}
+use Rattle.core_model.specs.Closing.{Plan, line_count}
 use Rattle.core_days.specs.Days.{IsPayDay, pay_day}
 use Rattle.core_days.proofs.PayDays.{pay_day-shows}
-use Rattle.core_replay.specs.Ledger.{is_on, is_paid_on, flows_of_day, flows_until}
-use Rattle.core_replay.specs.Steps.{with_flow, AreDue}
+use Rattle.core_replay.specs.Ledger.{is_on, is_paid_on, line_flows, flows_of_day, flows_until}
+use Rattle.core_replay.specs.Steps.{with_flows, AreDue}
 use Rattle.std.proofs.lemmas.List.{append-nil}
-use Rattle.core_sums.proofs.Joined.{each-days_to-more}
+use Rattle.core_sums.proofs.Joined.{each-days_to-more, each-below-more, each-filter}
 
 -- a pay day is not before the day, and is a house day
 pub pays-within : (c : CaseView) (i v w : ℕ) → pays c i v ≡ Some w → (v ≤ w) × (w ≤ c.last)
@@ -22,36 +21,65 @@ pays-within c i v w e = by_open (is_open c i v) e
     by_open true e = let day : IsPayDay (is_open c i) c.last (instrument c i).lag v w = pay_day-shows (is_open c i) c.last (instrument c i).lag v w e in (day.from, day.within)
     by_open false e = cc
 
--- the next line's flow is put behind those of its pay day
-pub flows_of_day-none : (c : CaseView) (d : ℤ) (a : Amounts) (k w v : ℕ) → flows_of_day c d a k w v 0 ≡ []
-unfolding below
-flows_of_day-none c d a k w v = refl
+-- the next line's flows are put behind those of their pay day
+pub flows_of_day-none : (c : CaseView) (a : Plan) (k w v : ℕ) → flows_of_day c a k w v 0 ≡ []
+unfolding below each
+flows_of_day-none c a k w v = refl
 
-map-kept : (b : Bool) (f : ℕ → ℤ) (l : ℕ) → map f (if b then l ∷ [] else []) ≡ (if b then f l ∷ [] else [])
-map-kept true f l = refl
-map-kept false f l = refl
+pub flows_of_day-more : (c : CaseView) (a : Plan) (k w v l : ℕ)
+    → flows_of_day c a k w v (suc l) ≡ flows_of_day c a k w v l ++ (if is_paid_on c v w l then line_flows c a k l v else [])
+flows_of_day-more c a k w v l =
+    each-filter (is_paid_on c v w) (λ m. line_flows c a k m v) (below (suc l))
+    ∙ each-below-more l (λ m. if is_paid_on c v w m then line_flows c a k m v else [])
+    ∙ ap (λ zs. zs ++ (if is_paid_on c v w l then line_flows c a k l v else [])) (sym (each-filter (is_paid_on c v w) (λ m. line_flows c a k m v) (below l)))
 
-pub flows_of_day-more : (c : CaseView) (d : ℤ) (a : Amounts) (k w v l : ℕ)
-    → flows_of_day c d a k w v (suc l) ≡ flows_of_day c d a k w v l ++ (if is_paid_on c v w l then flow c d a k l v ∷ [] else [])
-unfolding below
-flows_of_day-more c d a k w v l =
-    let f : ℕ → ℤ = λ l. flow c d a k l v in
-    ap (map f) (filter-append (is_paid_on c v w) (below l) (l ∷ []))
-    ∙ map-append f (filter (is_paid_on c v w) (below l)) (filter (is_paid_on c v w) (l ∷ []))
-    ∙ ap (λ zs. flows_of_day c d a k w v l ++ zs) (map-kept (is_paid_on c v w l) f l)
-
-pub flows_until-none : (c : CaseView) (d : ℤ) (a : Amounts) (k w : ℕ) → flows_until c d a k w 0 ≡ []
+pub flows_until-none : (c : CaseView) (a : Plan) (k w : ℕ) → flows_until c a k w 0 ≡ []
 unfolding days_to each
-flows_until-none c d a k w = refl
+flows_until-none c a k w = refl
 
 -- before day 0 and day 1 nothing is due
-pub due-start : (c : CaseView) (d : ℤ) (a : Amounts) (k n : ℕ) (due : List (List ℤ)) → n ≡ suc c.last → due ≡ replicate n [] → AreDue c d a k 0 0 due
-due-start c d a k n due long e = record {
+pub due-start : (c : CaseView) (a : Plan) (k n : ℕ) (due : List (List ℤ)) → n ≡ suc c.last → due ≡ replicate n [] → AreDue c a k 0 0 due
+due-start c a k n due long e = record {
   count = ap length e ∙ length-replicate n [] ∙ long;
   each = λ w within.
       ap (λ ds. row_at ds w) e ∙ get_or-replicate n w [] [] (omega (arith, long, within))
-      ∙ sym (ap (λ xs. xs ++ flows_of_day c d a k w 1 0) (flows_until-none c d a k w) ∙ flows_of_day-none c d a k w 1);
+      ∙ sym (ap (λ xs. xs ++ flows_of_day c a k w 1 0) (flows_until-none c a k w) ∙ flows_of_day-none c a k w 1);
 }
+
+-- ---- flows that are put one after the other
+
+-- a row that is put back as it was
+set-back : (due : List (List ℤ)) (w : ℕ) → slice_set due w (row_at due w) ≡ due
+set-back [] w = refl
+set-back (xs ∷ due) zero = refl
+set-back (xs ∷ due) (suc w) = ap (λ ds. xs ∷ ds) (set-back due w)
+
+-- a row that is written twice
+set-twice : (due : List (List ℤ)) (w : ℕ) (xs ys : List ℤ) → slice_set (slice_set due w xs) w ys ≡ slice_set due w ys
+set-twice [] w xs ys = refl
+set-twice (zs ∷ due) zero xs ys = refl
+set-twice (zs ∷ due) (suc w) xs ys = ap (λ ds. zs ∷ ds) (set-twice due w xs ys)
+
+pub with-none : (due : List (List ℤ)) (o : Option ℕ) → with_flows due o [] ≡ due
+with-none due None = refl
+with-none due (Some w) = ap (slice_set due w) (append-nil (row_at due w)) ∙ set-back due w
+
+pub with-more : (due : List (List ℤ)) (o : Option ℕ) (xs ys : List ℤ) → ((w : ℕ) → o ≡ Some w → w < length due)
+    → with_flows (with_flows due o xs) o ys ≡ with_flows due o (xs ++ ys)
+with-more due None xs ys within = refl
+with-more due (Some w) xs ys within =
+    ap (λ zs. slice_set (slice_set due w (row_at due w ++ xs)) w (zs ++ ys)) (get_or-set_same due w (row_at due w ++ xs) [] (within w refl))
+    ∙ ap (slice_set (slice_set due w (row_at due w ++ xs)) w) (append_assoc (row_at due w) xs ys)
+    ∙ set-twice due w (row_at due w ++ xs) (row_at due w ++ (xs ++ ys))
+
+-- as many rows as before
+pub with-long : (due : List (List ℤ)) (o : Option ℕ) (xs : List ℤ) → length (with_flows due o xs) ≡ length due
+with-long due None xs = refl
+with-long due (Some w) xs = length-set due w (row_at due w ++ xs)
+
+-- a day that pays is one of the rows
+pub pays-inside : (c : CaseView) (l t n : ℕ) → n ≡ suc c.last → (w : ℕ) → pays c (instrument_of c l) t ≡ Some w → w < n
+pays-inside c l t n long w e = omega (arith, long, (pays-within c (instrument_of c l) t w e).1)
 
 -- two days are the same or not
 day_cases : (w p : ℕ) → (w ≡ p) ⊎ (w ≢ p)
@@ -61,72 +89,72 @@ day_cases w p = by_test (w == p) refl
     by_test true e = inl (eqb-true w p e)
     by_test false e = inr (λ q. let f = eq-eqb w p q in cc)
 
--- the flow of line l on day v + 1
-pub due-more : (c : CaseView) (d : ℤ) (a : Amounts) (k v l : ℕ) (due : List (List ℤ)) → suc v ≤ c.last → AreDue c d a k v l due
-    → AreDue c d a k v (suc l) (with_flow due (pays c (instrument_of c l) (suc v)) (flow c d a k l (suc v)))
-due-more c d a k v l due within before = by_day (pays c (instrument_of c l) (suc v)) refl
+-- the flows of line l on day v + 1
+pub due-more : (c : CaseView) (a : Plan) (k v l : ℕ) (due : List (List ℤ)) → suc v ≤ c.last → AreDue c a k v l due
+    → AreDue c a k v (suc l) (with_flows due (pays c (instrument_of c l) (suc v)) (line_flows c a k l (suc v)))
+due-more c a k v l due within before = by_day (pays c (instrument_of c l) (suc v)) refl
   where
     more : (w : ℕ) (o : Option ℕ) → pays c (instrument_of c l) (suc v) ≡ o
-        → flows_of_day c d a k w (suc v) (suc l) ≡ flows_of_day c d a k w (suc v) l ++ (if is_on o w then flow c d a k l (suc v) ∷ [] else [])
-    more w o e = flows_of_day-more c d a k w (suc v) l ∙ ap (λ o. flows_of_day c d a k w (suc v) l ++ (if is_on o w then flow c d a k l (suc v) ∷ [] else [])) e
+        → flows_of_day c a k w (suc v) (suc l) ≡ flows_of_day c a k w (suc v) l ++ (if is_on o w then line_flows c a k l (suc v) else [])
+    more w o e = flows_of_day-more c a k w (suc v) l ∙ ap (λ o. flows_of_day c a k w (suc v) l ++ (if is_on o w then line_flows c a k l (suc v) else [])) e
 
     same : (w : ℕ) (o : Option ℕ) → pays c (instrument_of c l) (suc v) ≡ o → is_on o w ≡ false → w ≤ c.last
-        → row_at due w ≡ flows_until c d a k w v ++ flows_of_day c d a k w (suc v) (suc l)
+        → row_at due w ≡ flows_until c a k w v ++ flows_of_day c a k w (suc v) (suc l)
     same w o e off low =
         before.each w low
-        ∙ ap (λ xs. flows_until c d a k w v ++ xs)
-        (sym (more w o e ∙ ap (λ b. flows_of_day c d a k w (suc v) l ++ (if b then flow c d a k l (suc v) ∷ [] else [])) off ∙ append-nil (flows_of_day c d a k w (suc v) l)))
+        ∙ ap (λ zs. flows_until c a k w v ++ zs)
+        (sym (more w o e ∙ ap (λ b. flows_of_day c a k w (suc v) l ++ (if b then line_flows c a k l (suc v) else [])) off ∙ append-nil (flows_of_day c a k w (suc v) l)))
 
-    by_day : (o : Option ℕ) → pays c (instrument_of c l) (suc v) ≡ o → AreDue c d a k v (suc l) (with_flow due o (flow c d a k l (suc v)))
+    by_day : (o : Option ℕ) → pays c (instrument_of c l) (suc v) ≡ o → AreDue c a k v (suc l) (with_flows due o (line_flows c a k l (suc v)))
     by_day None e = record { count = before.count; each = λ w low. same w None e refl low }
     by_day (Some p) e = record {
-      count = length-set due p (row_at due p ++ (flow c d a k l (suc v) ∷ [])) ∙ before.count;
+      count = length-set due p (row_at due p ++ (line_flows c a k l (suc v))) ∙ before.count;
       each = λ w low. at_day w low (day_cases w p);
     }
       where
-        x : ℤ
-        x = flow c d a k l (suc v)
+        xs : List ℤ
+        xs = line_flows c a k l (suc v)
 
-        at_day : (w : ℕ) → w ≤ c.last → (w ≡ p) ⊎ (w ≢ p) → row_at (slice_set due p (row_at due p ++ (x ∷ []))) w ≡ flows_until c d a k w v ++ flows_of_day c d a k w (suc v) (suc l)
-        at_day w low (inr other) = get_or-set_other due p w (row_at due p ++ (x ∷ [])) [] other ∙ same w (Some p) e (ne_eqb p w (λ q. other (sym q))) low
+        at_day : (w : ℕ) → w ≤ c.last → (w ≡ p) ⊎ (w ≢ p) → row_at (slice_set due p (row_at due p ++ xs)) w ≡ flows_until c a k w v ++ flows_of_day c a k w (suc v) (suc l)
+        at_day w low (inr other) = get_or-set_other due p w (row_at due p ++ xs) [] other ∙ same w (Some p) e (ne_eqb p w (λ q. other (sym q))) low
         at_day w low (inl here) =
             let in_range : p < length due = omega (arith, before.count, here, low) in
             let on : is_on (Some p) w ≡ true = eq-eqb p w (sym here) in
-            ap (λ u. row_at (slice_set due p (row_at due p ++ (x ∷ []))) u) here
-            ∙ get_or-set_same due p (row_at due p ++ (x ∷ [])) [] in_range
-            ∙ ap (λ u. row_at due u ++ (x ∷ [])) (sym here)
-            ∙ ap (λ xs. xs ++ (x ∷ [])) (before.each w low)
-            ∙ append_assoc (flows_until c d a k w v) (flows_of_day c d a k w (suc v) l) (x ∷ [])
-            ∙ ap (λ xs. flows_until c d a k w v ++ xs)
-            (sym (more w (Some p) e ∙ ap (λ b. flows_of_day c d a k w (suc v) l ++ (if b then x ∷ [] else [])) on))
+            ap (λ u. row_at (slice_set due p (row_at due p ++ xs)) u) here
+            ∙ get_or-set_same due p (row_at due p ++ xs) [] in_range
+            ∙ ap (λ u. row_at due u ++ xs) (sym here)
+            ∙ ap (λ zs. zs ++ xs) (before.each w low)
+            ∙ append_assoc (flows_until c a k w v) (flows_of_day c a k w (suc v) l) xs
+            ∙ ap (λ zs. flows_until c a k w v ++ zs)
+            (sym (more w (Some p) e ∙ ap (λ b. flows_of_day c a k w (suc v) l ++ (if b then xs else [])) on))
 
 -- after the last line the day is over
-pub due-done : (c : CaseView) (d : ℤ) (a : Amounts) (k v n : ℕ) (due : List (List ℤ)) → n ≡ line_count c → AreDue c d a k v n due → AreDue c d a k (suc v) 0 due
-due-done c d a k v n due e before = record {
+pub due-done : (c : CaseView) (a : Plan) (k v n : ℕ) (due : List (List ℤ)) → n ≡ line_count c → AreDue c a k v n due → AreDue c a k (suc v) 0 due
+due-done c a k v n due e before = record {
   count = before.count;
   each = λ w low.
-      before.each w low ∙ ap (λ (m : ℕ). flows_until c d a k w v ++ flows_of_day c d a k w (suc v) m) e
-      ∙ sym (each-days_to-more v (λ u. flows_of_day c d a k w u (line_count c)))
-      ∙ sym (ap (λ xs. flows_until c d a k w (suc v) ++ xs) (flows_of_day-none c d a k w (suc (suc v))) ∙ append-nil (flows_until c d a k w (suc v)));
+      before.each w low ∙ ap (λ (m : ℕ). flows_until c a k w v ++ flows_of_day c a k w (suc v) m) e
+      ∙ sym (each-days_to-more v (λ u. flows_of_day c a k w u (line_count c)))
+      ∙ sym (ap (λ xs. flows_until c a k w (suc v) ++ xs) (flows_of_day-none c a k w (suc (suc v))) ∙ append-nil (flows_until c a k w (suc v)));
 }
 
 -- what is due on a day
-pub due-at : (c : CaseView) (d : ℤ) (a : Amounts) (k v w : ℕ) (due : List (List ℤ)) → w ≤ c.last → AreDue c d a k v 0 due → row_at due w ≡ flows_until c d a k w v
-due-at c d a k v w due low before =
-    before.each w low ∙ ap (λ xs. flows_until c d a k w v ++ xs) (flows_of_day-none c d a k w (suc v)) ∙ append-nil (flows_until c d a k w v)
+pub due-at : (c : CaseView) (a : Plan) (k v w : ℕ) (due : List (List ℤ)) → w ≤ c.last → AreDue c a k v 0 due → row_at due w ≡ flows_until c a k w v
+due-at c a k v w due low before =
+    before.each w low ∙ ap (λ zs. flows_until c a k w v ++ zs) (flows_of_day-none c a k w (suc v)) ∙ append-nil (flows_until c a k w v)
 
 -- the same, by the day itself
-pub due-step : (c : CaseView) (d : ℤ) (a : Amounts) (k t l : ℕ) (due : List (List ℤ)) → 1 ≤ t → t ≤ c.last → AreDue c d a k (t - 1) l due
-    → AreDue c d a k (t - 1) (l + 1) (with_flow due (pays c (instrument_of c l) t) (flow c d a k l t))
-due-step c d a k zero l due from within before = absurd (omega arith)
-due-step c d a k (suc v) l due from within before =
+pub due-step : (c : CaseView) (a : Plan) (k t l : ℕ) (due : List (List ℤ)) → 1 ≤ t → t ≤ c.last → AreDue c a k (t - 1) l due
+    → AreDue c a k (t - 1) (l + 1) (with_flows due (pays c (instrument_of c l) t) (line_flows c a k l t))
+due-step c a k zero l due from within before = absurd (omega arith)
+due-step c a k (suc v) l due from within before =
     let e : suc v - 1 ≡ v = omega arith in
     let more : suc l ≡ l + 1 = omega arith in
-    let now : AreDue c d a k v l due = subst (λ (n : ℕ). AreDue c d a k n l due) e before in
-    subst (λ (n : ℕ). AreDue c d a k n (l + 1) (with_flow due (pays c (instrument_of c l) (suc v)) (flow c d a k l (suc v)))) (sym e)
-    (subst (λ (n : ℕ). AreDue c d a k v n (with_flow due (pays c (instrument_of c l) (suc v)) (flow c d a k l (suc v)))) more (due-more c d a k v l due within now))
+    let now : AreDue c a k v l due = subst (λ (n : ℕ). AreDue c a k n l due) e before in
+    subst (λ (n : ℕ). AreDue c a k n (l + 1) (with_flows due (pays c (instrument_of c l) (suc v)) (line_flows c a k l (suc v)))) (sym e)
+    (subst (λ (n : ℕ). AreDue c a k v n (with_flows due (pays c (instrument_of c l) (suc v)) (line_flows c a k l (suc v)))) more (due-more c a k v l due within now))
 
-pub due-end : (c : CaseView) (d : ℤ) (a : Amounts) (k t n : ℕ) (due : List (List ℤ)) → 1 ≤ t → n ≡ line_count c → AreDue c d a k (t - 1) n due → AreDue c d a k t 0 due
-due-end c d a k zero n due from e before = absurd (omega arith)
-due-end c d a k (suc v) n due from e before =
-    let same : suc v - 1 ≡ v = omega arith in due-done c d a k v n due e (subst (λ (m : ℕ). AreDue c d a k m n due) same before)
+pub due-end : (c : CaseView) (a : Plan) (k t n : ℕ) (due : List (List ℤ)) → 1 ≤ t → n ≡ line_count c → AreDue c a k (t - 1) n due → AreDue c a k t 0 due
+due-end c a k zero n due from e before = absurd (omega arith)
+due-end c a k (suc v) n due from e before =
+    let same : suc v - 1 ≡ v = omega arith in due-done c a k v n due e (subst (λ (m : ℕ). AreDue c a k m n due) same before)

@@ -1,5 +1,5 @@
 mod Sizes
-mod Flows
+mod LineFlows
 mod Dues
 mod Totals
 mod Standing

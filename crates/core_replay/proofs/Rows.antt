@@ -1,28 +1,57 @@
--- The worked ledger, and the worked replay that leaves 128 bits, by their definitions.
+-- The worked ledgers, and the worked replay that leaves 128 bits.
 use Rattle.std.proofs.Common.{◌≡◌, refl, ◌^◌, pos, negsuc, [], ◌∷◌, map, codes, true, false}
 use Rattle.core_sums.specs.Sums.{sum_below, partial_sums}
 use Rattle.core_sums.specs.Places.{has, least_below, below, days_to, each}
 use Rattle.core_days.specs.Days.{working_dates, open_days, open_day_before}
 use Rattle.core_book.specs.View.{CaseView}
 use Rattle.core_book.specs.declared.parts.Kind.TheVariants.{Future}
-use Rattle.core_model.specs.Closing.{Amounts}
-use Rattle.core_model.specs.Bounds.{amounts_of}
-use Rattle.core_model.proofs.WorkedCases.{numbers, dipping, one_position}
-use Rattle.core_replay.specs.Ledger.{paid_on, day_leaves}
+use Rattle.core_model.specs.Closing.{Plan}
+use Rattle.core_model.specs.Layout.{plan_of}
+use Rattle.core_model.proofs.WorkedCases.{numbers, dipping, deep, instrument_of, tier_of, one_position}
+use Rattle.core_replay.specs.Ledger.{paid_on, line_flows, day_leaves}
 
-abbrev amounts : Amounts
-amounts = amounts_of dipping (record { den = pos 1; amounts = numbers (10 ∷ 10 ∷ []) })
+abbrev dipping_plan : Plan
+dipping_plan = plan_of dipping (record { den = pos 1; amounts = numbers (10 ∷ 10 ∷ []) })
 
-dipping-paid : map (paid_on dipping (pos 1) amounts 0) (0 ∷ 1 ∷ 2 ∷ 3 ∷ []) ≡ pos 0 ∷ pos 0 ∷ negsuc 199 ∷ pos 150 ∷ []
+dipping-paid : map (paid_on dipping dipping_plan 0) (0 ∷ 1 ∷ 2 ∷ 3 ∷ []) ≡ pos 0 ∷ pos 0 ∷ negsuc 199 ∷ pos 150 ∷ []
 unfolding sum_below has least_below working_dates open_days open_day_before
 dipping-paid = refl
 
+abbrev deep_plan : Plan
+deep_plan = plan_of deep (record { den = pos 1; amounts = numbers (6 ∷ 4 ∷ []) })
+
+-- the mark of ten, and four at a cost of three
+deep-flows : line_flows deep deep_plan 0 0 1 ≡ negsuc 99 ∷ negsuc 11 ∷ []
+unfolding sum_below has least_below working_dates open_days open_day_before days_to
+deep-flows = refl
+
+deep-paid : map (paid_on deep deep_plan 0) (0 ∷ 1 ∷ 2 ∷ []) ≡ pos 0 ∷ pos 0 ∷ negsuc 111 ∷ []
+unfolding sum_below has least_below working_dates open_days open_day_before
+deep-paid = refl
+
 -- ten of a future whose price swings by 2 * 10^12, over a denominator of 10^25
 abbrev swinging : CaseView
-swinging = one_position 2 3 [] Future 1 (numbers (0 ∷ 10 ∷ [])) (pos 1) (pos 10) (codes "SWING" ∷ [])
-    (((pos 0 ∷ negsuc 999999999999 ∷ pos 1000000000000 ∷ pos 0 ∷ []) ∷ []) ∷ []) (numbers (0 ∷ 0 ∷ 0 ∷ 0 ∷ []))
+swinging = one_position 2 3 (instrument_of Future 1 0) (tier_of 0 (0 ∷ 10 ∷ []) ∷ []) 10 (codes "SWING" ∷ [])
+    ((pos 0 ∷ negsuc 999999999999 ∷ pos 1000000000000 ∷ pos 0 ∷ []) ∷ []) (numbers (0 ∷ 0 ∷ 0 ∷ 0 ∷ []))
 
-swinging-days : map (day_leaves swinging (pos (10 ^ 25)) (amounts_of swinging (record { den = pos (10 ^ 25); amounts = numbers (0 ∷ 10 ^ 26 ∷ []) })) 0) (0 ∷ 1 ∷ 2 ∷ 3 ∷ [])
-    ≡ false ∷ false ∷ true ∷ true ∷ []
+abbrev swinging_plan : Plan
+swinging_plan = plan_of swinging (record { den = pos (10 ^ 25); amounts = numbers (0 ∷ 10 ^ 26 ∷ []) })
+
+swinging-days : map (day_leaves swinging swinging_plan 0) (0 ∷ 1 ∷ 2 ∷ 3 ∷ []) ≡ false ∷ false ∷ true ∷ true ∷ []
 unfolding sum_below partial_sums has least_below below days_to each working_dates open_days open_day_before
 swinging-days = refl
+
+-- ten of a future whose price stands still, in two tiers: the closings of a day cancel, and yet leave on the way
+abbrev standing : CaseView
+standing = one_position 1 2 (instrument_of Future 1 0) (tier_of 0 (10 ∷ []) ∷ tier_of 0 (10 ∷ []) ∷ []) 10
+    (codes "FLAT" ∷ []) (numbers (100 ∷ 100 ∷ 100 ∷ []) ∷ []) (numbers (0 ∷ 0 ∷ 0 ∷ []))
+
+abbrev standing_plan : Plan
+standing_plan = plan_of standing (record {
+  den = pos 1;
+  amounts = negsuc 170141183460469231731687303715884105726 ∷ pos 170141183460469231731687303715884105727 ∷ [];
+})
+
+standing-days : map (day_leaves standing standing_plan 0) (0 ∷ 1 ∷ 2 ∷ []) ≡ false ∷ true ∷ false ∷ []
+unfolding sum_below partial_sums has least_below below days_to each working_dates open_days open_day_before
+standing-days = refl

@@ -6,9 +6,9 @@ use Rattle.core_sums.specs.Sums.{sum_below}
 use Rattle.core_sums.specs.Places.{at, row_at}
 use Rattle.core_sums.specs.Widths.{any_leaves, leaves, most}
 use Rattle.core_book.specs.View.{CaseView, cash, instrument_of}
-use Rattle.core_model.specs.Closing.{Amounts, cash_of}
-use Rattle.core_replay.specs.Ledger.{paid_on, opening_numbers, lines_numbers, paid_numbers, day_leaves, flows_until}
-use Rattle.core_replay.specs.Steps.{AreStanding, AreDue, sum_numbers, later_numbers}
+use Rattle.core_model.specs.Closing.{Plan, cash_of}
+use Rattle.core_replay.specs.Ledger.{paid_on, opening_numbers, lines_numbers, paid_numbers, later_numbers, day_leaves, flows_until}
+use Rattle.core_replay.specs.Steps.{AreStanding, AreDue, sum_numbers}
 use Rattle.core_replay.specs.Answers.{AreByDay, StopsOn, StopsReplay}
 use Rattle.core_replay.specs.Runs.{AreEntered}
 use Rattle.core_replay.specs.declared.fault.ReplayFault.{ReplayFault}
@@ -16,7 +16,7 @@ use Rattle.core_replay.specs.declared.fault.ReplayFault.TheVariants.{TooWide, No
 use Rattle.core_sums.proofs.Leaving.{none-append, left-leaves, right-leaves, rest-leaves}
 use Rattle.std.proofs.lemmas.List.Folds.{list_any-append}
 use Rattle.core_replay.specs.declared.lines.Standing.{Standing}
-use Rattle.core_replay.proofs.Flows.{day_before-first, day_before-second}
+use Rattle.core_replay.proofs.LineFlows.{day_before-first, day_before-second}
 use Rattle.core_replay.proofs.Totals.{cash-more}
 use Rattle.core_replay.proofs.Dues.{due-at}
 
@@ -37,29 +37,29 @@ pub entered-all : (c : CaseView) (f : ℕ → ℤ) (n : ℕ) (xs : List ℤ) →
 entered-all c f n xs e all = record { count = all.count; each = λ t within. all.entered t (omega (arith, e, within)) }
 
 -- the next day's total before it
-pub total-more : (c : CaseView) (d : ℤ) (a : Amounts) (k t : ℕ) (z : ℤ) → z ≡ cash_of c d a k t → z ≡ sum_below (suc t) (paid_on c d a k)
+pub total-more : (c : CaseView) (a : Plan) (k t : ℕ) (z : ℤ) → z ≡ cash_of c a k t → z ≡ sum_below (suc t) (paid_on c a k)
 unfolding sum_below
-total-more c d a k t z e = e ∙ cash-more c d a k t
+total-more c a k t z e = e ∙ cash-more c a k t
 
 pub total-none : (f : ℕ → ℤ) (z : ℤ) → z ≡ pos 0 → z ≡ sum_below 0 f
 unfolding sum_below
 total-none f z e = e
 
 -- what is due when a day's lines are done
-pub due-now : (c : CaseView) (d : ℤ) (a : Amounts) (k t : ℕ) (due : List (List ℤ)) → t ≤ c.last → AreDue c d a k t 0 due → row_at due t ≡ flows_until c d a k t t
-due-now c d a k t due within before = due-at c d a k t t due within before
+pub due-now : (c : CaseView) (a : Plan) (k t : ℕ) (due : List (List ℤ)) → t ≤ c.last → AreDue c a k t 0 due → row_at due t ≡ flows_until c a k t t
+due-now c a k t due within before = due-at c a k t t due within before
 
-pub due-first : (c : CaseView) (d : ℤ) (a : Amounts) (k t : ℕ) (due : List (List ℤ)) → t ≡ 0 → AreDue c d a k (t - 1) 0 due → AreDue c d a k t 0 due
-due-first c d a k zero due e before = subst (λ (n : ℕ). AreDue c d a k n 0 due) (omega arith) before
-due-first c d a k (suc t) due e before = absurd (omega (arith, e))
+pub due-first : (c : CaseView) (a : Plan) (k t : ℕ) (due : List (List ℤ)) → t ≡ 0 → AreDue c a k (t - 1) 0 due → AreDue c a k t 0 due
+due-first c a k zero due e before = subst (λ (n : ℕ). AreDue c a k n 0 due) (omega arith) before
+due-first c a k (suc t) due e before = absurd (omega (arith, e))
 
-pub due-next : (c : CaseView) (d : ℤ) (a : Amounts) (k t : ℕ) (due : List (List ℤ)) → AreDue c d a k t 0 due → AreDue c d a k (suc t - 1) 0 due
-due-next c d a k t due before = let e : t ≡ suc t - 1 = omega arith in subst (λ (n : ℕ). AreDue c d a k n 0 due) e before
+pub due-next : (c : CaseView) (a : Plan) (k t : ℕ) (due : List (List ℤ)) → AreDue c a k t 0 due → AreDue c a k (suc t - 1) 0 due
+due-next c a k t due before = let e : t ≡ suc t - 1 = omega arith in subst (λ (n : ℕ). AreDue c a k n 0 due) e before
 
 -- the lines before day 0 stand as before day 1, since day 0 has no closing
-pub standing-first : (c : CaseView) (d : ℤ) (a : Amounts) (t : ℕ) (xs : List Standing) → t ≡ 0 → AreStanding c d a t 0 xs → AreStanding c d a (suc t) 0 xs
-standing-first c d a (suc t) xs e before = absurd (omega (arith, e))
-standing-first c d a zero xs e before = record {
+pub standing-first : (c : CaseView) (a : Plan) (t : ℕ) (xs : List Standing) → t ≡ 0 → AreStanding c a t 0 xs → AreStanding c a (suc t) 0 xs
+standing-first c a (suc t) xs e before = absurd (omega (arith, e))
+standing-first c a zero xs e before = record {
   count = before.count;
   gone = λ l under below. absurd (omega (arith, under));
   to_go = λ l from below.
@@ -77,61 +77,61 @@ or-more true b r e = refl
 or-more false true r e = refl
 or-more false false r e = e
 
-pub later-stay : (c : CaseView) (d : ℤ) (a : Amounts) (k t : ℕ) → any_leaves (lines_numbers c d a k t) ≡ false → any_leaves (sum_numbers c d a k t) ≡ false
-    → any_leaves (later_numbers c d a k t) ≡ false
-later-stay c d a k t lines sums =
-    ap (λ b. leaves most (d *ℤ cash c t) || b) (list_any-append (leaves most) (lines_numbers c d a k t) (paid_numbers c d a k t ++ (cash_of c d a k t ∷ [])))
-    ∙ or-between (leaves most (d *ℤ cash c t)) (any_leaves (lines_numbers c d a k t)) (any_leaves (paid_numbers c d a k t ++ (cash_of c d a k t ∷ []))) lines sums
+pub later-stay : (c : CaseView) (a : Plan) (k t : ℕ) → any_leaves (lines_numbers c a k t) ≡ false → any_leaves (sum_numbers c a k t) ≡ false
+    → any_leaves (later_numbers c a k t) ≡ false
+later-stay c a k t lines sums =
+    ap (λ b. leaves most (a.den *ℤ cash c t) || b) (list_any-append (leaves most) (lines_numbers c a k t) (paid_numbers c a k t ++ (cash_of c a k t ∷ [])))
+    ∙ or-between (leaves most (a.den *ℤ cash c t)) (any_leaves (lines_numbers c a k t)) (any_leaves (paid_numbers c a k t ++ (cash_of c a k t ∷ []))) lines sums
 
-pub lines-leave-later : (c : CaseView) (d : ℤ) (a : Amounts) (k t : ℕ) → any_leaves (lines_numbers c d a k t) ≡ true → any_leaves (later_numbers c d a k t) ≡ true
-lines-leave-later c d a k t out =
-    rest-leaves (d *ℤ cash c t) (lines_numbers c d a k t ++ (paid_numbers c d a k t ++ (cash_of c d a k t ∷ [])))
-    (left-leaves (lines_numbers c d a k t) (paid_numbers c d a k t ++ (cash_of c d a k t ∷ [])) out)
+pub lines-leave-later : (c : CaseView) (a : Plan) (k t : ℕ) → any_leaves (lines_numbers c a k t) ≡ true → any_leaves (later_numbers c a k t) ≡ true
+lines-leave-later c a k t out =
+    rest-leaves (a.den *ℤ cash c t) (lines_numbers c a k t ++ (paid_numbers c a k t ++ (cash_of c a k t ∷ [])))
+    (left-leaves (lines_numbers c a k t) (paid_numbers c a k t ++ (cash_of c a k t ∷ [])) out)
 
-pub sums-leave-later : (c : CaseView) (d : ℤ) (a : Amounts) (k t : ℕ) → any_leaves (sum_numbers c d a k t) ≡ true → any_leaves (later_numbers c d a k t) ≡ true
-sums-leave-later c d a k t out =
-    ap (λ b. leaves most (d *ℤ cash c t) || b) (list_any-append (leaves most) (lines_numbers c d a k t) (paid_numbers c d a k t ++ (cash_of c d a k t ∷ [])))
-    ∙ or-more (leaves most (d *ℤ cash c t)) (any_leaves (lines_numbers c d a k t)) (any_leaves (paid_numbers c d a k t ++ (cash_of c d a k t ∷ []))) out
+pub sums-leave-later : (c : CaseView) (a : Plan) (k t : ℕ) → any_leaves (sum_numbers c a k t) ≡ true → any_leaves (later_numbers c a k t) ≡ true
+sums-leave-later c a k t out =
+    ap (λ b. leaves most (a.den *ℤ cash c t) || b) (list_any-append (leaves most) (lines_numbers c a k t) (paid_numbers c a k t ++ (cash_of c a k t ∷ [])))
+    ∙ or-more (leaves most (a.den *ℤ cash c t)) (any_leaves (lines_numbers c a k t)) (any_leaves (paid_numbers c a k t ++ (cash_of c a k t ∷ []))) out
 
-pub no-lines : (c : CaseView) (d : ℤ) (a : Amounts) (k t : ℕ) → t ≡ 0 → any_leaves (lines_numbers c d a k t) ≡ false
-no-lines c d a k zero e = refl
-no-lines c d a k (suc t) e = absurd (omega (arith, e))
+pub no-lines : (c : CaseView) (a : Plan) (k t : ℕ) → t ≡ 0 → any_leaves (lines_numbers c a k t) ≡ false
+no-lines c a k zero e = refl
+no-lines c a k (suc t) e = absurd (omega (arith, e))
 
-pub day-stays : (c : CaseView) (d : ℤ) (a : Amounts) (k t : ℕ) → any_leaves (opening_numbers c d 0) ≡ false → any_leaves (later_numbers c d a k t) ≡ false → day_leaves c d a k t ≡ false
-day-stays c d a k zero opening later = none-append (opening_numbers c d 0) (later_numbers c d a k 0) opening later
-day-stays c d a k (suc t) opening later = later
+pub day-stays : (c : CaseView) (a : Plan) (k t : ℕ) → any_leaves (opening_numbers c a 0) ≡ false → any_leaves (later_numbers c a k t) ≡ false → day_leaves c a k t ≡ false
+day-stays c a k zero opening later = none-append (opening_numbers c a 0) (later_numbers c a k 0) opening later
+day-stays c a k (suc t) opening later = later
 
-pub later-leaves-day : (c : CaseView) (d : ℤ) (a : Amounts) (k t : ℕ) → any_leaves (later_numbers c d a k t) ≡ true → day_leaves c d a k t ≡ true
-later-leaves-day c d a k t out = right-leaves (opening_numbers c d t) (later_numbers c d a k t) out
+pub later-leaves-day : (c : CaseView) (a : Plan) (k t : ℕ) → any_leaves (later_numbers c a k t) ≡ true → day_leaves c a k t ≡ true
+later-leaves-day c a k t out = right-leaves (opening_numbers c a t) (later_numbers c a k t) out
 
-pub opening-leaves-day : (c : CaseView) (d : ℤ) (a : Amounts) (k : ℕ) → any_leaves (opening_numbers c d 0) ≡ true → day_leaves c d a k 0 ≡ true
-opening-leaves-day c d a k out = left-leaves (opening_numbers c d 0) (later_numbers c d a k 0) out
+pub opening-leaves-day : (c : CaseView) (a : Plan) (k : ℕ) → any_leaves (opening_numbers c a 0) ≡ true → day_leaves c a k 0 ≡ true
+opening-leaves-day c a k out = left-leaves (opening_numbers c a 0) (later_numbers c a k 0) out
 
 -- a fault of a day is one of the replay
-pub stops-day : (c : CaseView) (d : ℤ) (a : Amounts) (k t : ℕ) (fault : ReplayFault) → t ≤ c.last → ((s : ℕ) → s < t → day_leaves c d a k s ≡ false)
-    → StopsOn k t (later_numbers c d a k t) fault → StopsReplay c d a k fault
-stops-day c d a k t (TooWide scenario day) within earlier stops = (
+pub stops-day : (c : CaseView) (a : Plan) (k t : ℕ) (fault : ReplayFault) → t ≤ c.last → ((s : ℕ) → s < t → day_leaves c a k s ≡ false)
+    → StopsOn k t (later_numbers c a k t) fault → StopsReplay c a k fault
+stops-day c a k t (TooWide scenario day) within earlier stops = (
   stops.0,
   record {
     within = omega (arith, stops.1, within);
     earlier_days = λ s under. earlier s (omega (arith, stops.1, under));
-    leaving = ap (day_leaves c d a k) stops.1 ∙ later-leaves-day c d a k t stops.2;
+    leaving = ap (day_leaves c a k) stops.1 ∙ later-leaves-day c a k t stops.2;
   },
 )
-stops-day c d a k t NoMemory within earlier stops = tt
+stops-day c a k t NoMemory within earlier stops = tt
 
-pub stops-opening : (c : CaseView) (d : ℤ) (a : Amounts) (k : ℕ) (fault : ReplayFault) → StopsOn k 0 (opening_numbers c d 0) fault → StopsReplay c d a k fault
-stops-opening c d a k (TooWide scenario day) stops = (
+pub stops-opening : (c : CaseView) (a : Plan) (k : ℕ) (fault : ReplayFault) → StopsOn k 0 (opening_numbers c a 0) fault → StopsReplay c a k fault
+stops-opening c a k (TooWide scenario day) stops = (
   stops.0,
   record {
     within = omega (arith, stops.1);
     earlier_days = λ s under. absurd (omega (arith, stops.1, under));
-    leaving = ap (day_leaves c d a k) stops.1 ∙ opening-leaves-day c d a k stops.2;
+    leaving = ap (day_leaves c a k) stops.1 ∙ opening-leaves-day c a k stops.2;
   },
 )
-stops-opening c d a k NoMemory stops = tt
+stops-opening c a k NoMemory stops = tt
 
 -- a fault of a day's lines is one of the day
-pub stops-lines : (c : CaseView) (d : ℤ) (a : Amounts) (k t : ℕ) (fault : ReplayFault) → StopsOn k t (lines_numbers c d a k t) fault → StopsOn k t (later_numbers c d a k t) fault
-stops-lines c d a k t (TooWide scenario day) stops = (stops.0, stops.1, lines-leave-later c d a k t stops.2)
-stops-lines c d a k t NoMemory stops = tt
+pub stops-lines : (c : CaseView) (a : Plan) (k t : ℕ) (fault : ReplayFault) → StopsOn k t (lines_numbers c a k t) fault → StopsOn k t (later_numbers c a k t) fault
+stops-lines c a k t (TooWide scenario day) stops = (stops.0, stops.1, lines-leave-later c a k t stops.2)
+stops-lines c a k t NoMemory stops = tt

@@ -1,14 +1,11 @@
--- What a unit of a line pays is kept by 64 bits, and an amount of the calendar has its place.
-use Rattle.std.proofs.Common.{ℕ, ◌+◌, ◌-◌, ◌*◌, ◌^◌, ◌<◌, ◌≤◌, length, arith, unsigned_abs, FitsSigned, w64, le_refl}
+-- What a unit of a line pays is kept by 64 bits.
+use Rattle.std.proofs.Common.{ℕ, ◌*◌, ◌^◌, ◌<◌, ◌≤◌, length, arith, unsigned_abs, FitsSigned, w64}
 use Rattle.std.proofs.lemmas.Int.{fits_signed_from_abs}
-use Rattle.std.proofs.Math.Nat.{mul-le-mul}
 use Rattle.core_book.specs.View.{CaseView, instrument_of, is_open, day_before}
 use Rattle.core_book.specs.Kept.{IsCase}
 use Rattle.core_book.specs.declared.parts.Kind.{Kind}
 use Rattle.core_book.specs.declared.parts.Kind.TheVariants.{Future, Security}
 use Rattle.core_model.specs.Closing.{line_count}
-use Rattle.core_model.specs.Fits.{CalendarFits}
-use Rattle.core_model.specs.declared.cert.Calendar.{Calendar}
 use Rattle.core_model.proofs.Sizes.{marks-within, sale-within, open_day_before-le}
 use Rattle.core_replay.specs.Steps.{unit_by}
 
@@ -25,11 +22,3 @@ pub unit-fits : (kind : Kind) (c : CaseView) (k l t : ℕ) → IsCase c → k < 
 unit-fits kind c k l t kept known below within =
     let small : unsigned_abs (unit_by kind c k l t) < 2 ^ 63 = omega (arith, unit-within kind c k l t kept known below within) in
     fits_signed_from_abs w64 (unit_by kind c k l t) small
-
--- an amount stands in the calendar's list
-pub place-within : (c : CaseView) (calendar : Calendar) (l u : ℕ) → CalendarFits c calendar → l < line_count c → 1 ≤ u → u ≤ c.horizon
-    → l * c.horizon + (u - 1) < length calendar.amounts
-place-within c calendar l u fits below low high =
-    let room : (l + 1) * c.horizon ≤ length c.lines * c.horizon = mul-le-mul (omega (arith, below)) (le_refl c.horizon) in
-    let long = fits.amounts.0 in
-    omega (arith, room, low, high, long)

@@ -3,7 +3,7 @@ use Rattle.std.specs.Prelude.{◌≡◌, ℕ, suc, ◌≤◌, ℤ, List, length,
 use Rattle.core_sums.specs.Places.{at}
 use Rattle.core_sums.specs.Widths.{any_leaves}
 use Rattle.core_book.specs.View.{CaseView}
-use Rattle.core_model.specs.Closing.{Amounts, cash_of, worst_loss}
+use Rattle.core_model.specs.Closing.{Plan, cash_of, worst_loss}
 use Rattle.core_replay.specs.Ledger.{paid_on, LeavesOn, LeavesFirst, IsWorstAt, NoneLeaves, StaysIn}
 use Rattle.core_replay.specs.declared.ledger.Ledger.{Ledger}
 use Rattle.core_replay.specs.declared.fault.ReplayFault.{ReplayFault}
@@ -16,26 +16,26 @@ pub record AreByDay (c : CaseView) (f : ℕ → ℤ) (xs : List ℤ) : Type 0 wh
   pub each : (t : ℕ) → t ≤ c.last → at xs t ≡ f t
 
 -- the ledger of a calendar in a scenario, none of whose numbers leaves
-pub record IsLedger (c : CaseView) (d : ℤ) (a : Amounts) (k : ℕ) (ledger : Ledger) : Type 0 where
-  pub den : ledger.den ≡ d
-  pub paid : AreByDay c (paid_on c d a k) ledger.paid
-  pub total : AreByDay c (cash_of c d a k) ledger.total
-  pub stays : StaysIn c d a k
+pub record IsLedger (c : CaseView) (a : Plan) (k : ℕ) (ledger : Ledger) : Type 0 where
+  pub den : ledger.den ≡ a.den
+  pub paid : AreByDay c (paid_on c a k) ledger.paid
+  pub total : AreByDay c (cash_of c a k) ledger.total
+  pub stays : StaysIn c a k
 
 -- the worst loss with its place, where none of the numbers leaves
-pub record IsWorstLoss (c : CaseView) (d : ℤ) (a : Amounts) (worst : WorstLoss) : Type 0 where
-  pub loss : worst.loss ≡ worst_loss c d a
-  pub place : IsWorstAt c d a worst.scenario worst.day
-  pub stays : NoneLeaves c d a
+pub record IsWorstLoss (c : CaseView) (a : Plan) (worst : WorstLoss) : Type 0 where
+  pub loss : worst.loss ≡ worst_loss c a
+  pub place : IsWorstAt c a worst.scenario worst.day
+  pub stays : NoneLeaves c a
 
 -- a number of that scenario and day leaves, and none before it; want of memory says nothing of the numbers
-abbrev pub StopsReplay : CaseView → ℤ → Amounts → ℕ → ReplayFault → Type 0
-StopsReplay c d a k (TooWide scenario day) = (scenario ≡ k) × LeavesOn c d a k day
-StopsReplay c d a k NoMemory = Unit {0}
+abbrev pub StopsReplay : CaseView → Plan → ℕ → ReplayFault → Type 0
+StopsReplay c a k (TooWide scenario day) = (scenario ≡ k) × LeavesOn c a k day
+StopsReplay c a k NoMemory = Unit {0}
 
-abbrev pub StopsWorst : CaseView → ℤ → Amounts → ReplayFault → Type 0
-StopsWorst c d a (TooWide scenario day) = LeavesFirst c d a scenario day
-StopsWorst c d a NoMemory = Unit {0}
+abbrev pub StopsWorst : CaseView → Plan → ReplayFault → Type 0
+StopsWorst c a (TooWide scenario day) = LeavesFirst c a scenario day
+StopsWorst c a NoMemory = Unit {0}
 
 -- one of some numbers of that scenario and day leaves
 abbrev pub StopsOn : ℕ → ℕ → List ℤ → ReplayFault → Type 0

@@ -1,7 +1,7 @@
 // The flows that are still to be paid, by pay day.
 ghost use Rattle.std.specs.Prelude.{◌≡◌, ℕ, ◌<◌, ◌++◌, ◌∷◌, [], Some, length, replicate, slice_set, IfOk};
 ghost use Rattle.core_sums.specs.Places.{row_at};
-ghost use Rattle.core_replay.specs.Steps.{with_flow};
+ghost use Rattle.core_replay.specs.Steps.{with_flows};
 
 use std::alloc::{AllocError, Global};
 use std::marker::Model;
@@ -45,7 +45,7 @@ impl DueFlows {
     /// Puts a flow behind those of its pay day, if it has one.
     pub(crate) fn add(&mut self, day: Option<u8>, flow: i128) -> Result<(), AllocError>
         requires { (w : ℕ) → day ≡ Some w → w < length self.old }
-        ensures { IfOk result (λ _. self.new ≡ with_flow self.old day flow) }
+        ensures { IfOk result (λ _. self.new ≡ with_flows self.old day (flow ∷ [])) }
     {
         match day {
             Some(day) => self.put(day, flow),

@@ -4,10 +4,10 @@ ghost use Rattle.core_sums.specs.Sums.{sum_below};
 ghost use Rattle.core_sums.specs.Widths.{any_leaves};
 ghost use Rattle.core_book.specs.Kept.{IsCase};
 ghost use Rattle.core_model.specs.Closing.{cash_of};
-ghost use Rattle.core_model.specs.Bounds.{amounts_of};
+ghost use Rattle.core_model.specs.Layout.{plan_of};
 ghost use Rattle.core_model.specs.Fits.{CalendarFits};
-ghost use Rattle.core_replay.specs.Ledger.{opening_numbers, flows_until, paid_on};
-ghost use Rattle.core_replay.specs.Steps.{sum_numbers, later_numbers};
+ghost use Rattle.core_replay.specs.Ledger.{opening_numbers, later_numbers, flows_until, paid_on};
+ghost use Rattle.core_replay.specs.Steps.{sum_numbers};
 ghost use Rattle.core_replay.specs.Runs.{IsRun};
 ghost use Rattle.core_replay.specs.Answers.{IsLedger, StopsReplay, StopsOn};
 
@@ -62,16 +62,16 @@ fn day_sums(
     requires fits { CalendarFits case.now calendar.now }
     requires day { t ≤ case.now.last }
     requires due { due.now ≡ flows_until
-        case.now calendar.now.den (amounts_of case.now calendar.now) scenario t t }
+        case.now (plan_of case.now calendar.now) scenario t t }
     requires before { before ≡ sum_below t (paid_on
-        case.now calendar.now.den (amounts_of case.now calendar.now) scenario) }
+        case.now (plan_of case.now calendar.now) scenario) }
     ensures { let numbers = sum_numbers
-        case.now calendar.now.den (amounts_of case.now calendar.now) scenario t in
+        case.now (plan_of case.now calendar.now) scenario t in
         MatchOption result (any_leaves numbers ≡ true)
         (λ sums. (sums.0 ≡ paid_on
-        case.now calendar.now.den (amounts_of case.now calendar.now) scenario t)
+        case.now (plan_of case.now calendar.now) scenario t)
         × (sums.1 ≡ cash_of
-        case.now calendar.now.den (amounts_of case.now calendar.now) scenario t)
+        case.now (plan_of case.now calendar.now) scenario t)
         × (any_leaves numbers ≡ false)) }
 {
     let cash = times(calendar.den, i128::from(case.cash(t)))?;
@@ -91,11 +91,11 @@ impl Run {
         requires kept { IsCase case.now }
         requires fits { CalendarFits case.now calendar.now }
         ensures started { IfOk result (IsRun
-            case.now calendar.now.den (amounts_of case.now calendar.now) scenario 0) }
+            case.now (plan_of case.now calendar.now) scenario 0) }
         ensures stays { IfOk result
-            (λ _. any_leaves (opening_numbers case.now calendar.now.den 0) ≡ false) }
+            (λ _. any_leaves (opening_numbers case.now (plan_of case.now calendar.now) 0) ≡ false) }
         ensures stops { IfErr result
-            (StopsOn scenario 0 (opening_numbers case.now calendar.now.den 0)) }
+            (StopsOn scenario 0 (opening_numbers case.now (plan_of case.now calendar.now) 0)) }
     {
         let lines = open_lines(alloc, case, calendar, scenario)?;
         let days = usize::from(case.last()) + 1;
@@ -122,15 +122,15 @@ impl Run {
         requires scenario { scenario < length case.now.scenarios }
         requires day { t ≤ case.now.last }
         requires before { IsRun
-            case.now calendar.now.den (amounts_of case.now calendar.now) scenario t self.old }
+            case.now (plan_of case.now calendar.now) scenario t self.old }
         ensures after { IfOk result (λ _. IsRun case.now calendar.now.den
             (amounts_of case.now calendar.now) scenario (suc t) self.new) }
         ensures stays { IfOk result
             (λ _. any_leaves (later_numbers
-            case.now calendar.now.den (amounts_of case.now calendar.now) scenario t) ≡ false) }
+            case.now (plan_of case.now calendar.now) scenario t) ≡ false) }
         ensures stops { IfErr result
             (StopsOn scenario t (later_numbers
-            case.now calendar.now.den (amounts_of case.now calendar.now) scenario t)) }
+            case.now (plan_of case.now calendar.now) scenario t)) }
     {
         day_lines(case, calendar, scenario, t, &mut self.lines, &mut self.due)?;
         let due = self.due.on(t);
@@ -164,9 +164,9 @@ pub fn replay(
     requires den { pos 1 ≤ℤ calendar.now.den }
     requires scenario { scenario < length case.now.scenarios }
     ensures replayed { IfOk result (IsLedger
-        case.now calendar.now.den (amounts_of case.now calendar.now) scenario) }
+        case.now (plan_of case.now calendar.now) scenario) }
     ensures stops { IfErr result (StopsReplay
-        case.now calendar.now.den (amounts_of case.now calendar.now) scenario) }
+        case.now (plan_of case.now calendar.now) scenario) }
 {
     let last = case.last();
     let mut run = Run::start(alloc, case, calendar, scenario)?;

@@ -3,6 +3,7 @@
 
 mod due;
 mod fault;
+mod flows;
 mod ledger;
 mod lines;
 mod losses;

@@ -1,7 +1,7 @@
 // The worst loss of a calendar, with its place.
 ghost use Rattle.std.specs.Prelude.{◌≡◌, ℕ, ◌<◌, ◌≤◌, ◌+◌, pos, neg_ℤ, ◌≤ℤ◌, int_lt, length, if◌then◌else◌, IfOk, IfErr};
 ghost use Rattle.core_sums.specs.Places.{at};
-ghost use Rattle.core_model.specs.Bounds.{amounts_of};
+ghost use Rattle.core_model.specs.Layout.{plan_of};
 ghost use Rattle.core_model.specs.Fits.{CalendarFits, IsKept};
 ghost use Rattle.core_replay.specs.Answers.{IsWorstLoss, StopsWorst};
 ghost use Rattle.core_replay.specs.Worse.{loss_at, IsWorstOfDays};
@@ -69,9 +69,9 @@ pub fn worst(alloc: Global, case: &Case, calendar: &Calendar) -> Result<WorstLos
     requires fits { CalendarFits case.now calendar.now }
     requires den { pos 1 ≤ℤ calendar.now.den }
     ensures worst { IfOk result (IsWorstLoss
-        case.now calendar.now.den (amounts_of case.now calendar.now)) }
+        case.now (plan_of case.now calendar.now)) }
     ensures stops { IfErr result (StopsWorst
-        case.now calendar.now.den (amounts_of case.now calendar.now)) }
+        case.now (plan_of case.now calendar.now)) }
 {
     let last = case.last();
     let first = replay(alloc, case, calendar, 0)?;

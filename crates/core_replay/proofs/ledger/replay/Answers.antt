@@ -1,5 +1,5 @@
 use Rattle.std.proofs.Common.{◌≡◌, rules, arith, ◌≤◌, ◌+◌, suc, ℕ, subst, false, below_more}
-use Rattle.core_model.specs.Bounds.{amounts_of}
+use Rattle.core_model.specs.Layout.{plan_of}
 use Rattle.core_replay.specs.Ledger.{day_leaves}
 use Rattle.core_replay.specs.Runs.{IsRun}
 use Rattle.core_replay.proofs.Running.{day-stays, stops-day}
@@ -7,20 +7,19 @@ use Rattle.core_replay.proofs.ledger.replay.Goals as goal
 
 pub loop-t-preserved : goal.loop-t-preserved
 loop-t-preserved c =
-    let a = amounts_of c.args.case.now c.args.calendar.now in
-    let d = c.args.calendar.now.den in
+    let a = plan_of c.args.case.now c.args.calendar.now in
     let k = c.args.scenario in
     let more : suc c.loop-t.t ≡ c.loop-t.t + 1 = omega arith in
     record {
-      running = subst (λ (t : ℕ). IsRun c.args.case.now d a k t c.day.new.self) more c.in_ok-day.ensures.after;
-      stays = below_more (λ (s : ℕ). day_leaves c.args.case.now d a k s ≡ false) c.loop-t.t c.loop-t.invariant.stays
-          (day-stays c.args.case.now d a k c.loop-t.t c.in_ok-run.ensures.stays c.in_ok-day.ensures.stays);
+      running = subst (λ (t : ℕ). IsRun c.args.case.now a k t c.day.new.self) more c.in_ok-day.ensures.after;
+      stays = below_more (λ (s : ℕ). day_leaves c.args.case.now a k s ≡ false) c.loop-t.t c.loop-t.invariant.stays
+          (day-stays c.args.case.now a k c.loop-t.t c.in_ok-run.ensures.stays c.in_ok-day.ensures.stays);
     }
 
 pub returns-in_err-day-clause-stops : goal.returns-in_err-day-clause-stops
 returns-in_err-day-clause-stops c =
-    let a = amounts_of c.args.case.now c.args.calendar.now in
+    let a = plan_of c.args.case.now c.args.calendar.now in
     let within : c.loop-t.t ≤ c.args.case.now.last = omega (arith, c.loop-t-test.true, c.last-last.ensures.value) in
-    let stops = stops-day c.args.case.now c.args.calendar.now.den a c.args.scenario c.loop-t.t c.in_err-day.field-0.0 within c.loop-t.invariant.stays c.in_err-day.ensures.stops in
+    let stops = stops-day c.args.case.now a c.args.scenario c.loop-t.t c.in_err-day.field-0.0 within c.loop-t.invariant.stays c.in_err-day.ensures.stops in
     let gives = c.from_residual-in_err-day.ensures in
     search (rules, stops)

@@ -1,6 +1,6 @@
 use Rattle.std.proofs.Common.{◌≡◌, sym, ◌∙◌, ap, true, false}
 use Rattle.core_book.specs.View.{instrument_of, is_open}
-use Rattle.core_replay.proofs.Flows.{day_before-open, day_before-closed}
+use Rattle.core_replay.proofs.LineFlows.{day_before-open, day_before-closed}
 use Rattle.core_replay.proofs.lines.marked_after.Goals as goal
 
 pub returns-then-is_open : goal.returns-then-is_open

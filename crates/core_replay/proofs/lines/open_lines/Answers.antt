@@ -3,7 +3,7 @@ use mir.Syntax.{w128}
 use Rattle.std.proofs.lemmas.Int.{to_z-of_z}
 use Rattle.core_book.specs.View.{line}
 use Rattle.core_model.specs.Closing.{line_count}
-use Rattle.core_model.specs.Bounds.{amounts_of}
+use Rattle.core_model.specs.Layout.{plan_of}
 use Rattle.core_wide.specs.Steps.{Stays, Leaves}
 use Rattle.core_replay.proofs.Standing.{opened-more, opened-stays, opening-leaves}
 use Rattle.core_replay.proofs.lines.open_lines.Goals as goal
@@ -18,7 +18,7 @@ loop-l-preserved c =
     let plain = simp to_z-of_z at c.in-Some.ensures in
     let here = subst (λ z. (c.in-Some.still_open ≡ z *ℤ c.args.calendar.now.den) × Stays (z *ℤ c.args.calendar.now.den)) amount plain in
     let items = simp to_z-of_z at c.in_ok-push_standing.ensures in
-    opened-more c.args.case.now c.args.calendar.now.den (amounts_of c.args.case.now c.args.calendar.now) c.loop-l.l c.loop-l.lines.items c.push_standing.new.lines.items c.in-Some.still_open c.loop-l.invariant here items
+    opened-more c.args.case.now (plan_of c.args.case.now c.args.calendar.now) c.loop-l.l c.loop-l.lines.items c.push_standing.new.lines.items c.in-Some.still_open c.loop-l.invariant here items
 
 pub returns-in_default-clause-stops : goal.returns-in_default-clause-stops
 returns-in_default-clause-stops c =
@@ -29,9 +29,9 @@ returns-in_default-clause-stops c =
     let plain : Leaves (c.from-amount.result *ℤ c.args.calendar.now.den) = simp to_z-of_z at c.in_default.ensures in
     let here : Leaves ((line c.args.case.now c.loop-l.l).amount *ℤ c.args.calendar.now.den) = subst (λ z. Leaves (z *ℤ c.args.calendar.now.den)) amount plain in
     let below : c.loop-l.l < line_count c.args.case.now = omega (arith, c.loop-l-test.true, c.lines-l-end.ensures) in
-    (refl, refl, opening-leaves c.args.case.now c.args.calendar.now.den c.loop-l.l below here)
+    (refl, refl, opening-leaves c.args.case.now (plan_of c.args.case.now c.args.calendar.now) c.loop-l.l below here)
 
 pub returns-clause-stays : goal.returns-clause-stays
 returns-clause-stays c =
     let done : c.loop-l.l ≡ line_count c.args.case.now = omega (arith, c.loop-l-test.false, c.loop-l.auto.l-end, c.lines-l-end.ensures) in
-    opened-stays c.args.case.now c.args.calendar.now.den (amounts_of c.args.case.now c.args.calendar.now) c.loop-l.l c.loop-l.lines.items done c.loop-l.invariant
+    opened-stays c.args.case.now (plan_of c.args.case.now c.args.calendar.now) c.loop-l.l c.loop-l.lines.items done c.loop-l.invariant

@@ -1,7 +1,7 @@
 use Rattle.std.proofs.Common.{◌≡◌, arith, ap}
 use Rattle.core_book.specs.View.{instrument_of}
 use Rattle.core_model.proofs.Sizes.{line-kept}
-use Rattle.core_replay.proofs.lines.base_of.Goals as goal
+use Rattle.core_replay.proofs.flows.base_of.Goals as goal
 
 pub instrument-requires : goal.instrument-requires
 instrument-requires c =

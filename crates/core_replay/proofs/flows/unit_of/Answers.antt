@@ -2,10 +2,10 @@ use Rattle.std.proofs.Common.{◌≡◌, rules, sym, ◌∙◌, ap, ◌*ℤ◌, 
 use Rattle.std.proofs.lemmas.Int.{to_z-of_z}
 use Rattle.core_book.specs.View.{instrument, instrument_of, price}
 use Rattle.core_book.specs.declared.parts.Kind.TheVariants.{Future, Security}
-use Rattle.core_model.specs.Closing.{size}
-use Rattle.core_replay.specs.Steps.{unit_by, kind_of}
+use Rattle.core_model.specs.Closing.{kind_of, size}
+use Rattle.core_replay.specs.Steps.{unit_by}
 use Rattle.core_replay.proofs.Sizes.{unit-fits}
-use Rattle.core_replay.proofs.lines.unit_of.Goals as goal
+use Rattle.core_replay.proofs.flows.unit_of.Goals as goal
 
 pub overflow_mul-result : goal.overflow_mul-result
 overflow_mul-result c =

@@ -3,11 +3,11 @@ use mir.Syntax.{w128}
 use Rattle.std.proofs.lemmas.Int.{to_z-of_z}
 use Rattle.core_book.specs.View.{instrument_of, is_open}
 use Rattle.core_model.specs.Closing.{flow}
-use Rattle.core_model.specs.Bounds.{amounts_of}
+use Rattle.core_model.specs.Layout.{plan_of}
 use Rattle.core_wide.specs.Steps.{Leaves, Stays}
 use Rattle.core_replay.specs.Steps.{unit_of, base_of}
-use Rattle.core_replay.proofs.Flows.{flow-open}
-use Rattle.core_replay.proofs.lines.flow.Goals as goal
+use Rattle.core_replay.proofs.LineFlows.{flow-open}
+use Rattle.core_replay.proofs.flows.flow.Goals as goal
 
 pub returns-then-is_open : goal.returns-then-is_open
 returns-then-is_open c =
@@ -17,10 +17,10 @@ returns-then-is_open c =
     let left : FitsSigned w128 c.from.result = search rules in
     let right : FitsSigned w128 c.base_of.result = search rules in
     let unit : c.from.result ≡ unit_of c.args.case.now c.args.scenario c.args.l c.args.t = (simp to_z-of_z at c.from.ensures) ∙ c.unit_of-unit.ensures in
-    let base : c.base_of.result ≡ base_of c.args.case.now c.args.calendar.now.den (amounts_of c.args.case.now c.args.calendar.now) c.args.l c.args.t = c.base_of.ensures in
-    let product : c.from.result *ℤ c.base_of.result ≡ flow c.args.case.now c.args.calendar.now.den (amounts_of c.args.case.now c.args.calendar.now) c.args.scenario c.args.l c.args.t =
+    let base : c.base_of.result ≡ base_of c.args.case.now (plan_of c.args.case.now c.args.calendar.now) c.args.l c.args.t = c.base_of.ensures in
+    let product : c.from.result *ℤ c.base_of.result ≡ flow c.args.case.now (plan_of c.args.case.now c.args.calendar.now) c.args.scenario c.args.l c.args.t =
     ap (λ z. z *ℤ c.base_of.result) unit ∙ ap (λ z. unit_of c.args.case.now c.args.scenario c.args.l c.args.t *ℤ z) base
-    ∙ sym (flow-open c.args.case.now c.args.calendar.now.den (amounts_of c.args.case.now c.args.calendar.now) c.args.scenario c.args.l c.args.t opens) in
+    ∙ sym (flow-open c.args.case.now (plan_of c.args.case.now c.args.calendar.now) c.args.scenario c.args.l c.args.t opens) in
     let plain : MatchOption c.times.result (Leaves (c.from.result *ℤ c.base_of.result)) (λ r. (r ≡ c.from.result *ℤ c.base_of.result) × Stays (c.from.result *ℤ c.base_of.result)) =
     simp to_z-of_z at c.times.ensures in
     subst (λ z. MatchOption c.times.result (Leaves z) (λ r. (r ≡ z) × Stays z)) product plain

@@ -3,7 +3,7 @@ use Rattle.std.proofs.lemmas.Int.{to_z-of_z}
 use Rattle.core_book.specs.View.{instrument_of, price, day_before}
 use Rattle.core_model.proofs.Sizes.{instrument-known, change-fits}
 use Rattle.core_replay.proofs.Sizes.{marked-within}
-use Rattle.core_replay.proofs.lines.price_change.Goals as goal
+use Rattle.core_replay.proofs.flows.price_change.Goals as goal
 
 pub price-requires-2-clause-day : goal.price-requires-2-clause-day
 price-requires-2-clause-day c =

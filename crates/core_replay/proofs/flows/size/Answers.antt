@@ -2,7 +2,7 @@ use Rattle.std.proofs.Common.{◌≡◌, rules, ◌*ℤ◌, FitsSigned, w64}
 use Rattle.std.proofs.lemmas.Int.{to_z-of_z}
 use Rattle.core_model.specs.Closing.{size}
 use Rattle.core_model.proofs.Sizes.{size-fits}
-use Rattle.core_replay.proofs.lines.size.Goals as goal
+use Rattle.core_replay.proofs.flows.size.Goals as goal
 
 pub overflow_mul-result : goal.overflow_mul-result
 overflow_mul-result c =
