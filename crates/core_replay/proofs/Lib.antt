@@ -1,6 +1,7 @@
 mod Sizes
 mod LineFlows
 mod Dues
+mod Costs
 mod Totals
 mod Standing
 mod Running

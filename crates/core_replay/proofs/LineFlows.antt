@@ -1,8 +1,10 @@
 -- A line's mark or sale of a day, what its closings cost, and the line before the next day.
-use Rattle.std.proofs.Common.{◌≡◌, refl, sym, ◌∙◌, ap, ℕ, zero, suc, ◌-◌, ◌<◌, ◌≤◌, min, arith, ℤ, pos, neg_ℤ, ◌+ℤ◌, ◌-ℤ◌, ◌*ℤ◌, Bool, true, false, ◌&&◌, nat_le, if◌then◌else◌, List, [], ◌∷◌, ◌++◌, map, Option, Some, None, MatchOption, subst}
+use Rattle.std.proofs.Common.{◌≡◌, refl, sym, ◌∙◌, ap, ℕ, zero, suc, ◌-◌, ◌<◌, ◌≤◌, min, arith, ℤ, pos, neg_ℤ, ◌+ℤ◌, ◌-ℤ◌, ◌*ℤ◌, Bool, true, false, not, ◌&&◌, nat_le, if◌then◌else◌, List, [], ◌∷◌, ◌++◌, map, Option, Some, None, MatchOption, subst}
 use Rattle.std.proofs.lemmas.Int.{ints}
 use Rattle.std.proofs.Math.IntN.{*ℤ-zero, zero-*ℤ}
 use Rattle.std.proofs.lemmas.Bool.{le-leb, lt-leb}
+use Rattle.std.proofs.lemmas.Bool.Decides.{Decides-int_eq}
+use Rattle.std.specs.Ordering.{int_eq}
 use Rattle.std.proofs.lemmas.List.{map-append}
 use Rattle.core_sums.specs.Widths.{most, leaves, any_leaves}
 use Rattle.core_sums.specs.Places.{days_to}
@@ -71,12 +73,12 @@ day_before-second c i = by_open (is_open c i 0)
 pub still_open-more : (c : CaseView) (a : Plan) (l t : ℕ) → 1 ≤ t → t ≤ c.horizon → still_open c a l (suc t) ≡ still_open c a l t -ℤ closed_on c a l t
 unfolding sum_below
 still_open-more c a l zero from within = absurd (omega arith)
-still_open-more c closed_on c a l (suc s) from within =
+still_open-more c a l (suc s) from within =
     let after : min (suc (suc s) - 1) c.horizon ≡ suc s = omega arith in
     let before : min (suc s - 1) c.horizon ≡ s = omega arith in
     let whole = (line c l).amount *ℤ a.den in
     let one : still_open c a l (suc (suc s)) ≡ whole -ℤ (sum_days s (closed_on c a l) +ℤ closed_on c a l (suc s)) = ap (λ n. whole -ℤ sum_days n (closed_on c a l)) after in
-    let two : still_open c closed_on c a l (suc s) ≡ whole -ℤ sum_days s (closed_on c a l) = ap (λ n. whole -ℤ sum_days n (closed_on c a l)) before in
+    let two : still_open c a l (suc s) ≡ whole -ℤ sum_days s (closed_on c a l) = ap (λ n. whole -ℤ sum_days n (closed_on c a l)) before in
     one ∙ regroup whole (sum_days s (closed_on c a l)) (closed_on c a l (suc s)) ∙ ap (λ z. z -ℤ closed_on c a l (suc s)) (sym two)
   where
     regroup : (w s x : ℤ) → w -ℤ (s +ℤ x) ≡ (w -ℤ s) -ℤ x
@@ -206,8 +208,12 @@ cost-within c a l t j opens within =
 pub not-costly : (c : CaseView) (a : Plan) (l t j : ℕ) → is_costly c (instrument_of c l) j ≡ false → cost_flow c a l t j ≡ pos 0
 not-costly c a l t j free = by_day (is_open c (instrument_of c l) t && nat_le t c.horizon)
   where
+    by_test : (b : Bool) → int_eq (cost c (instrument_of c l) j) (pos 0) ≡ b → not b ≡ false → cost c (instrument_of c l) j ≡ pos 0
+    by_test true e q = (Decides-int_eq (cost c (instrument_of c l) j) (pos 0)).0 e
+    by_test false e q = cc
+
     none : cost c (instrument_of c l) j ≡ pos 0
-    none = grind (arith, ints, free)
+    none = by_test (int_eq (cost c (instrument_of c l) j) (pos 0)) refl free
 
     by_day : (b : Bool) → (if b then neg_ℤ (cost c (instrument_of c l) j *ℤ a.amount l t j) else pos 0) ≡ pos 0
     by_day true = ap (λ z. neg_ℤ (z *ℤ a.amount l t j)) none ∙ ap neg_ℤ (zero-*ℤ (a.amount l t j))

@@ -93,9 +93,9 @@ paid-on-some (Some w) t z = by_order (cases_lt t w)
 -- the cash of the days up to t is the sum of what is paid on each
 pub cash-is : (c : CaseView) (a : Plan) (k t : ℕ) → cash_of c a k t ≡ sum_below (suc t) (paid_on c a k)
 cash-is c a k t =
-    let flows : ℕ → ℤ = λ s. sum_below (line_count c) (λ l. sum_days c.last (λ v. due_flow c a k s v l)) in
-    sym (sum_below-plus (suc t) (λ s. a.den *ℤ cash c s) flows
-    ∙ ap (λ z. z +ℤ sum_below (suc t) flows) (sum_below-scale (suc t) a.den (cash c))
+    let by_day : ℕ → ℤ = λ s. sum_below (line_count c) (λ l. sum_days c.last (λ v. due_flow c a k s v l)) in
+    sym (sum_below-plus (suc t) (λ s. a.den *ℤ cash c s) by_day
+    ∙ ap (λ z. z +ℤ sum_below (suc t) by_day) (sum_below-scale (suc t) a.den (cash c))
     ∙ ap (λ z. (a.den *ℤ fixed c t) +ℤ z)
     (sum_below-swap (suc t) (line_count c) (λ s l. sum_days c.last (λ v. due_flow c a k s v l))
     ∙ sum_below-cong (line_count c) (λ l. sum_below (suc t) (λ s. sum_days c.last (λ v. due_flow c a k s v l)))

@@ -249,5 +249,6 @@ pub(crate) fn put_flows(
         return Err(ReplayFault::TooWide { scenario, day: t });
     };
     due.add(pay_day(case, l, t), flow)?;
-    put_costs(case, calendar, scenario, l, t, due)
+    put_costs(case, calendar, scenario, l, t, due)?;
+    Ok(())
 }

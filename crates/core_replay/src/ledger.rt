@@ -123,8 +123,8 @@ impl Run {
         requires day { t ≤ case.now.last }
         requires before { IsRun
             case.now (plan_of case.now calendar.now) scenario t self.old }
-        ensures after { IfOk result (λ _. IsRun case.now calendar.now.den
-            (amounts_of case.now calendar.now) scenario (suc t) self.new) }
+        ensures after { IfOk result (λ _. IsRun
+            case.now (plan_of case.now calendar.now) scenario (suc t) self.new) }
         ensures stays { IfOk result
             (λ _. any_leaves (later_numbers
             case.now (plan_of case.now calendar.now) scenario t) ≡ false) }
@@ -148,12 +148,13 @@ impl Run {
 ///
 /// On day 0 a line has its amount times the denominator open. On an open day from 1 on a future's flow is sign times
 /// multiplier times the change of the price since the last open day, on what is open; a security's is sign times
-/// multiplier times the price, on what is closed then. What is closed on a day is taken from what is open after its
-/// flow. A flow is paid on its pay day, and on no day where it has none. What is paid on a day is the fixed cash times
-/// the denominator and then the flows whose pay day it is, by their day and then by line.
+/// multiplier times the price, on what is closed then in all tiers. Besides, what is closed in a tier has the flow minus
+/// the tier's cost times its amount. What is closed on a day is taken from what is open after these flows, tier by tier.
+/// A flow is paid on its pay day, and on no day where it has none. What is paid on a day is the fixed cash times the
+/// denominator and then the flows whose pay day it is, by their day, then by line, then by tier.
 ///
-/// The answer is `TooWide` with the scenario and the first day on which one of these numbers, a sum of what is paid on
-/// the way or a total is above 2^127 - 1 in absolute value. The time is linear in lines times house days.
+/// The answer is `TooWide` with the scenario and the first day on which one of these numbers, a sum on the way or a total
+/// is above 2^127 - 1 in absolute value. The time is linear in lines times house days times tiers.
 pub fn replay(
     alloc: Global,
     case: &Case,

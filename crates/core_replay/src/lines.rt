@@ -7,7 +7,7 @@ ghost use Rattle.core_model.specs.Closing.{IsClosingDay, line_count, still_open}
 ghost use Rattle.core_model.specs.Layout.{plan_of};
 ghost use Rattle.core_model.specs.Fits.{CalendarFits};
 ghost use Rattle.core_replay.specs.Ledger.{opening_numbers, closings, closing_numbers, line_flows, line_numbers, lines_numbers};
-ghost use Rattle.core_wide.specs.Steps.{summed};
+ghost use Rattle.core_wide.specs.Steps.{summed, with_number};
 ghost use Rattle.core_replay.specs.Steps.{with_flows, IsStanding, AreStanding, AreDue};
 ghost use Rattle.core_replay.specs.Answers.{StopsOn};
 
@@ -28,6 +28,13 @@ pub(crate) struct Standing {
     pub(crate) marked_on: u8,
 }
 
+/// A number less another, as a step of a sum, or None where it leaves.
+fn less(rest: i128, amount: i128) -> Option<i128>
+    ensures { result ≡ with_number rest (neg_ℤ amount) }
+{
+    minus(rest, amount)
+}
+
 /// What a line has open after the closings of a closing day, tier by tier, or None where it leaves on the way.
 fn less_closed(case: &Case, calendar: &Calendar, l: usize, t: u8, still_open: i128) -> Option<i128>
     requires kept { IsCase case.now }
@@ -38,7 +45,7 @@ fn less_closed(case: &Case, calendar: &Calendar, l: usize, t: u8, still_open: i1
         (map neg_ℤ (closings case.now (plan_of case.now calendar.now) l t)) }
 {
     add_each(still_open, usize::from(case.tiers()), |rest, j| {
-        minus(rest, calendar.amount(case, l, t, j as u8 + 1))
+        less(rest, calendar.amount(case, l, t, j as u8 + 1))
     })
 }
 

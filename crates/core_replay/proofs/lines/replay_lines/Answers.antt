@@ -1,40 +1,35 @@
-use Rattle.std.proofs.Common.{◌≡◌, rules, arith, refl, sym, ◌∙◌, ap, subst, ◌<◌, ◌+◌, ◌-◌, ℕ, length, false, FitsSigned, below_more}
-use mir.Syntax.{w128}
-use Rattle.std.proofs.lemmas.Int.{to_z-of_z}
-use Rattle.core_book.specs.View.{instrument_of, pays}
-use Rattle.core_model.specs.Closing.{line_count, flow}
+use Rattle.std.proofs.Common.{◌≡◌, rules, arith, sym, subst, ◌<◌, ◌+◌, ◌-◌, ℕ, length, false, below_more}
+use Rattle.core_model.specs.Closing.{line_count}
 use Rattle.core_model.specs.Layout.{plan_of}
 use Rattle.core_sums.specs.Widths.{any_leaves}
-use Rattle.core_replay.specs.Ledger.{line_numbers}
-use Rattle.core_replay.specs.Steps.{AreDue, with_flow}
-use Rattle.core_replay.proofs.Dues.{pays-within, due-step, due-end}
+use Rattle.core_replay.specs.Ledger.{line_numbers, lines_numbers}
+use Rattle.core_replay.specs.Steps.{AreDue}
+use Rattle.core_replay.proofs.Dues.{due-step, due-end}
+use Rattle.core_replay.proofs.Costs.{stops-more}
 use Rattle.core_replay.proofs.Standing.{standing-more, standing-done, lines-stay, lines-leave}
 use Rattle.core_replay.proofs.lines.replay_lines.Goals as goal
 
-pub returns-in_default-clause-stops : goal.returns-in_default-clause-stops
-returns-in_default-clause-stops c =
-    let below : c.loop-l.l < line_count c.args.case.now = omega (arith, c.loop-l-test.true, c.len-l-end.ensures, c.requires.standing.count) in
-    (refl, refl, lines-leave c.args.case.now (plan_of c.args.case.now c.args.calendar.now) c.args.scenario c.args.t c.loop-l.l c.requires.from below c.in_default.ensures)
-
-pub add-requires : goal.add-requires
-add-requires c w e =
-    let day = pays-within c.args.case.now (instrument_of c.args.case.now c.loop-l.l) c.args.t w (sym c.pay_day.ensures ∙ e) in
-    omega (arith, day.1, c.loop-l.invariant.due.count)
+pub returns-in_err-lines-clause-stops : goal.returns-in_err-lines-clause-stops
+returns-in_err-lines-clause-stops c =
+    let case = c.args.case.now in
+    let a = plan_of case c.args.calendar.now in
+    let below : c.loop-l.l < line_count case = omega (arith, c.loop-l-test.true, c.len-l-end.ensures, c.requires.standing.count) in
+    let stops = stops-more c.args.scenario c.args.t (line_numbers case a c.args.scenario c.args.t c.loop-l.l) (lines_numbers case a c.args.scenario c.args.t)
+    c.in_err-lines.field-0.0
+    (λ out. lines-leave case a c.args.scenario c.args.t c.loop-l.l c.requires.from below out) c.in_err-lines.ensures.stops in
+    let gives = c.from_residual.ensures in
+    search (rules, stops)
 
 pub loop-l-preserved : goal.loop-l-preserved
 loop-l-preserved c =
-    let a = plan_of c.args.case.now c.args.calendar.now in
-    let fits : FitsSigned w128 c.in-Some.flow = search rules in
+    let case = c.args.case.now in
+    let a = plan_of case c.args.calendar.now in
     let inside : c.loop-l.l < length c.loop-l.lines.items = omega (arith, c.loop-l-test.true, c.len-l-end.ensures, c.requires.standing.count, c.loop-l.invariant.standing.count) in
-    let put : c.add.new.self ≡ with_flow c.loop-l.due c.pay_day.result c.in-Some.flow = simp to_z-of_z at c.in_ok-add.ensures in
-    let due : c.add.new.self ≡ with_flow c.loop-l.due (pays c.args.case.now (instrument_of c.args.case.now c.loop-l.l) c.args.t) (flow c.args.case.now a c.args.scenario c.loop-l.l c.args.t) =
-    put ∙ ap (λ o. with_flow c.loop-l.due o c.in-Some.flow) c.pay_day.ensures
-    ∙ ap (λ z. with_flow c.loop-l.due (pays c.args.case.now (instrument_of c.args.case.now c.loop-l.l) c.args.t) z) c.in-Some.ensures.0 in
     record {
-      standing = standing-more c.args.case.now a c.args.t c.loop-l.l c.loop-l.lines.items c.in-Some.next inside c.loop-l.invariant.standing c.in-Some.ensures.1;
-      due = subst (AreDue c.args.case.now a c.args.scenario (c.args.t - 1) (c.loop-l.l + 1)) (sym due)
-          (due-step c.args.case.now a c.args.scenario c.args.t c.loop-l.l c.loop-l.due c.requires.from c.requires.to c.loop-l.invariant.due);
-      stays = below_more (λ (i : ℕ). any_leaves (line_numbers c.args.case.now a c.args.scenario c.args.t i) ≡ false) c.loop-l.l c.loop-l.invariant.stays c.in-Some.ensures.2;
+      standing = standing-more case a c.args.t c.loop-l.l c.loop-l.lines.items c.in_ok-lines.field-0 inside c.loop-l.invariant.standing c.in_ok-lines.ensures.next;
+      due = subst (AreDue case a c.args.scenario (c.args.t - 1) (c.loop-l.l + 1)) (sym c.in_ok-lines.ensures.due)
+          (due-step case a c.args.scenario c.args.t c.loop-l.l c.loop-l.due c.requires.from c.requires.to c.loop-l.invariant.due);
+      stays = below_more (λ (i : ℕ). any_leaves (line_numbers case a c.args.scenario c.args.t i) ≡ false) c.loop-l.l c.loop-l.invariant.stays c.in_ok-lines.ensures.stays;
     }
 
 pub returns-clause-standing : goal.returns-clause-standing
