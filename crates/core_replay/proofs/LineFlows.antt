@@ -6,7 +6,7 @@ use Rattle.std.proofs.lemmas.Bool.{le-leb, lt-leb}
 use Rattle.std.proofs.lemmas.Bool.Decides.{Decides-int_eq}
 use Rattle.std.specs.Ordering.{int_eq}
 use Rattle.std.proofs.lemmas.List.{map-append}
-use Rattle.core_sums.specs.Widths.{most, leaves, any_leaves}
+use Rattle.core_sums.specs.Widths.{any_leaves}
 use Rattle.core_sums.specs.Places.{days_to}
 use Rattle.core_sums.proofs.Lists.{total-append}
 use Rattle.core_sums.proofs.Leaving.{none-append, none-one, left-leaves, right-leaves, first-leaves}
@@ -14,7 +14,7 @@ use Rattle.core_wide.proofs.Stepping.{numbers-summed}
 use Rattle.core_replay.specs.Ledger.{closings, sold_by, closing_numbers, is_costly}
 use Rattle.core_days.specs.Days.{open_day_before}
 use Rattle.core_sums.specs.Sums.{sum_below, sum_days, total, partial_sums}
-use Rattle.core_book.specs.View.{CaseView, instrument, line, instrument_of, tiers, cost, is_open, day_before}
+use Rattle.core_book.specs.View.{CaseView, line, instrument_of, tiers, cost, is_open, day_before}
 use Rattle.core_book.specs.declared.parts.Kind.{Kind}
 use Rattle.core_book.specs.declared.parts.Kind.TheVariants.{Future, Security}
 use Rattle.core_model.specs.Closing.{Plan, kind_of, size, price_of, closed_on, still_open, flow_by, flow, cost_flow}
@@ -156,7 +156,7 @@ base-within c a l t r kind opens within e = by_result r (numbers-summed (pos 0) 
 
     by_result : (r : Option ℤ)
         → MatchOption r (any_leaves (partial_sums (pos 0) (closings c a l t)) ≡ true)
-            (λ z. (z ≡ pos 0 +ℤ total (closings c a l t)) × (any_leaves (partial_sums (pos 0) (closings c a l t)) ≡ false))
+        (λ z. (z ≡ pos 0 +ℤ total (closings c a l t)) × (any_leaves (partial_sums (pos 0) (closings c a l t)) ≡ false))
         → MatchOption r (any_leaves (sold_by (kind_of c l) c a t l) ≡ true) (IsBase c a l t)
     by_result None out = ap any_leaves sold ∙ out
     by_result (Some z) there =
@@ -234,10 +234,10 @@ closing-answer c a l t r from within e = by_result r (numbers-summed (still_open
   where
     by_result : (r : Option ℤ)
         → MatchOption r (any_leaves (partial_sums (still_open c a l t) (map neg_ℤ (closings c a l t))) ≡ true)
-            (λ z. (z ≡ still_open c a l t +ℤ total (map neg_ℤ (closings c a l t)))
-                × (any_leaves (partial_sums (still_open c a l t) (map neg_ℤ (closings c a l t))) ≡ false))
+        (λ z. (z ≡ still_open c a l t +ℤ total (map neg_ℤ (closings c a l t)))
+        × (any_leaves (partial_sums (still_open c a l t) (map neg_ℤ (closings c a l t))) ≡ false))
         → MatchOption r (any_leaves (closing_numbers c a t l) ≡ true)
-            (λ rest. (rest ≡ still_open c a l (suc t)) × (any_leaves (closing_numbers c a t l) ≡ false))
+        (λ rest. (rest ≡ still_open c a l (suc t)) × (any_leaves (closing_numbers c a t l) ≡ false))
     by_result None out = ap any_leaves (closing-within c a l t within) ∙ out
     by_result (Some z) there =
         let taken = total-neg (closings c a l t) in

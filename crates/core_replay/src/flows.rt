@@ -183,7 +183,8 @@ fn put_cost(
     let Some(flow) = cost_flow(case, calendar, l, t, j) else {
         return Err(ReplayFault::TooWide { scenario, day: t });
     };
-    due.add(pay_day(case, l, t), flow)?;
+    let paid_on = pay_day(case, l, t);
+    due.add(paid_on, flow)?;
     Ok(())
 }
 

@@ -30,5 +30,5 @@ returns-then-t-horizon c =
     ∙ ap (λ z. neg_ℤ (cost case i c.args.j *ℤ z)) c.amount.ensures
     ∙ sym (cost-within case a c.args.l c.args.t c.args.j opens within) in
     let plain : MatchOption c.times.result (Leaves ((pos 0 +ℤ neg_ℤ c.from.result) *ℤ c.amount.result))
-        (λ r. (r ≡ (pos 0 +ℤ neg_ℤ c.from.result) *ℤ c.amount.result) × Stays ((pos 0 +ℤ neg_ℤ c.from.result) *ℤ c.amount.result)) = simp to_z-of_z at c.times.ensures in
+    (λ r. (r ≡ (pos 0 +ℤ neg_ℤ c.from.result) *ℤ c.amount.result) × Stays ((pos 0 +ℤ neg_ℤ c.from.result) *ℤ c.amount.result)) = simp to_z-of_z at c.times.ensures in
     subst (λ z. MatchOption c.times.result (Leaves z) (λ r. (r ≡ z) × Stays z)) value plain

@@ -1,4 +1,4 @@
-use Rattle.std.proofs.Common.{◌≡◌, rules, sym, ◌∙◌, ap, ℤ, pos, of_z, length, [], ◌∷◌, FitsSigned, w64}
+use Rattle.std.proofs.Common.{◌≡◌, rules, sym, ◌∙◌, ap, pos, of_z, length, [], ◌∷◌, FitsSigned, w64}
 use mir.Syntax.{w128}
 use Rattle.std.proofs.lemmas.Int.{to_z-of_z}
 use Rattle.core_sums.specs.Widths.{any_leaves}
@@ -23,7 +23,7 @@ returns-then-cost-eq0-clause-due c =
     ∙ with-none c.args.due.now (pays case (instrument_of case c.args.l) c.args.t))
 
 pub add-requires : goal.add-requires
-add-requires c w e = pays-inside c.args.case.now c.args.l c.args.t (length c.args.due.now) c.requires.due w (sym c.pay_day.ensures ∙ e)
+add-requires c w e = pays-inside c.args.case.now c.args.l c.args.t (length c.args.due.now) c.requires.due w (sym c.pay_day-paid_on.ensures ∙ e)
 
 pub returns-clause-due : goal.returns-clause-due
 returns-clause-due c =
@@ -35,9 +35,9 @@ returns-clause-due c =
     ap (λ x. cost case x.instrument c.args.j) (sym c.line.ensures) ∙ sym c.cost.ensures in
     let one : cost_flows case a c.args.l c.args.t c.args.j ≡ cost_flow case a c.args.l c.args.t c.args.j ∷ [] =
     costly-one case a c.args.l c.args.t c.args.j (λ e. c.if-cost-eq0.false (ap (of_z w64) (sym same ∙ e))) in
-    let put : c.add.new.self ≡ with_flows c.args.due.now c.pay_day.result (c.in-Some.flow ∷ []) = simp to_z-of_z at c.in_ok-add.ensures in
+    let put : c.add.new.self ≡ with_flows c.args.due.now c.pay_day-paid_on.result (c.in-Some.flow ∷ []) = simp to_z-of_z at c.in_ok-add.ensures in
     put
-    ∙ ap (λ o. with_flows c.args.due.now o (c.in-Some.flow ∷ [])) c.pay_day.ensures
+    ∙ ap (λ o. with_flows c.args.due.now o (c.in-Some.flow ∷ [])) c.pay_day-paid_on.ensures
     ∙ ap (λ z. with_flows c.args.due.now day (z ∷ [])) c.in-Some.ensures.0
     ∙ ap (with_flows c.args.due.now day) (sym one)
 

@@ -1,4 +1,4 @@
-use Rattle.std.proofs.Common.{◌≡◌, rules, arith, ◌∙◌, ap, ℕ, ◌+◌, ◌<◌, suc, length, map}
+use Rattle.std.proofs.Common.{◌≡◌, rules, arith, ◌∙◌, ap, ◌+◌, ◌<◌, suc, length, map}
 use Rattle.core_book.specs.View.{instrument_of, tiers, pays}
 use Rattle.core_model.specs.Closing.{cost_flow}
 use Rattle.core_model.specs.Layout.{plan_of}

@@ -1,7 +1,7 @@
 use Rattle.std.proofs.Common.{◌≡◌, rules, refl, sym, ◌∙◌, ap, length, map, [], ◌∷◌, FitsSigned}
 use mir.Syntax.{w128}
 use Rattle.std.proofs.lemmas.Int.{to_z-of_z}
-use Rattle.core_book.specs.View.{instrument_of, pays}
+use Rattle.core_book.specs.View.{instrument_of}
 use Rattle.core_model.specs.Closing.{cost_flow}
 use Rattle.core_model.specs.Layout.{plan_of}
 use Rattle.core_replay.specs.Ledger.{costly_tiers, flow_numbers}

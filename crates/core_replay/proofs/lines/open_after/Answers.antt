@@ -1,7 +1,6 @@
 use Rattle.std.proofs.Common.{◌≡◌, rules, arith, sym, ◌∙◌, ap, ◌≤◌, neg_ℤ, [], map, FitsSigned}
 use mir.Syntax.{w128}
 use Rattle.std.proofs.lemmas.Int.{to_z-of_z}
-use Rattle.core_model.specs.Closing.{still_open}
 use Rattle.core_model.specs.Layout.{plan_of}
 use Rattle.core_wide.specs.Steps.{summed}
 use Rattle.core_replay.specs.Ledger.{closings}
