@@ -7,7 +7,7 @@ use Rattle.std.specs.List.{All, list_any}
 use Rattle.std.specs.Ordering.{int_eq}
 use Rattle.core_sums.specs.Places.{at, row_at, has}
 use Rattle.core_days.specs.Days.{is_open_on}
-use Rattle.core_book.specs.View.{CaseView, date, instrument_of, has_holidays, has_cash}
+use Rattle.core_book.specs.View.{CaseView, date, instrument, instrument_of, tiers, has_holidays, has_cash}
 use Rattle.core_book.specs.Kept.{IsCase, IsMember}
 use Rattle.core_book.specs.declared.parts.Member.{Member}
 use Rattle.core_case.specs.Stated.{case_of_bytes}
@@ -103,18 +103,22 @@ one-future c kept e =
     let to_scenarios = first-true _ _ to_pools in
     let to_holidays = first-true _ _ to_scenarios in
     let to_markets = first-true _ _ to_holidays in
+    let to_tiers = first-true _ _ to_markets in
     let no_holidays : has_holidays c ≡ false = not-true _ (second-true _ _ to_holidays) in
     let no_cash : has_cash c ≡ false = not-true _ (second-true _ _ to_cash) in
     let no_pool : length c.pools ≡ 0 = eqb-true (length c.pools) 0 (second-true _ _ to_pools) in
-    let to_kind = first-true _ _ one_position in
+    let to_expiry = first-true _ _ one_position in
+    let to_kind = first-true _ _ to_expiry in
     let to_lines = first-true _ _ to_kind in
     record {
-      horizon = eqb-true c.horizon 1 (first-true _ _ to_markets);
+      horizon = eqb-true c.horizon 1 (first-true _ _ to_tiers);
       days = omega (arith, kept.last.0, kept.horizon.0);
+      one_tier = eqb-true (tiers c) 1 (second-true _ _ to_tiers);
       one_instrument = eqb-true (length c.instruments) 1 (first-true _ _ to_lines);
       one_line = eqb-true (length c.lines) 1 (second-true _ _ to_lines);
       one_scenario = eqb-true (length c.scenarios) 1 (second-true _ _ to_scenarios);
       future = a-future _ (second-true _ _ to_kind);
+      no_expiry = eqb-true (instrument c (instrument_of c 0)).expiry 0 (second-true _ _ to_expiry);
       position = a-position _ (second-true _ _ one_position);
       opens = λ v. always-open (row_at c.holidays (get_or c.markets (instrument_of c 0) 0)) v (date c v) (each-empty c.holidays (get_or c.markets (instrument_of c 0) 0) no_holidays);
       no_pool = no_pool;

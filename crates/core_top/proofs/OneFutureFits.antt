@@ -11,6 +11,7 @@ use Rattle.core_sums.specs.Widths.{most}
 use Rattle.core_book.specs.View.{CaseView, instrument, line, instrument_of, no_line, no_instrument, price}
 use Rattle.core_book.specs.Kept.{IsCase, IsLine, IsInstrument}
 use Rattle.core_model.specs.Closing.{size}
+use Rattle.core_model.specs.Layout.{amount_count, limit_count}
 use Rattle.core_model.specs.Fits.{IsKept, AreKept, WeightsFit, Fits}
 use Rattle.core_cert.specs.Written.{IsPlainlyRefusing}
 use Rattle.core_model.specs.declared.cert.Cert.TheVariants.{Cannot}
@@ -21,7 +22,7 @@ use Rattle.core_sums.proofs.Kept.{abs-within}
 line-kept : (c : CaseView) → IsCase c → IsOneFuture c → IsLine c (line c 0)
 line-kept c kept one = kept.lines.0 0 no_line (omega (arith, one.one_line))
 
-instrument-kept : (c : CaseView) → IsCase c → IsOneFuture c → IsInstrument (instrument c (instrument_of c 0))
+instrument-kept : (c : CaseView) → IsCase c → IsOneFuture c → IsInstrument c.horizon (instrument c (instrument_of c 0))
 instrument-kept c kept one = kept.instruments.1 (instrument_of c 0) no_instrument (line-kept c kept one).known
 
 pub price-within : (c : CaseView) (t : ℕ) → IsCase c → IsOneFuture c → t ≤ c.last → unsigned_abs (price c 0 (instrument_of c 0) t) ≤ 10 ^ 12
@@ -101,7 +102,7 @@ weights-fit : (c : CaseView) (scenario : List ℤ) (weight full : ℤ) → IsOne
 weights-fit c scenario weight full one long each weight_kept full_kept = record {
   den = omega arith;
   scenario = (long ∙ sym (scenario-count c one), each);
-  limit = one-kept weight (length c.instruments * c.horizon) (product-one _ _ one.one_instrument one.horizon) weight_kept;
+  limit = one-kept weight (limit_count c) (product-one _ _ (product-one _ _ one.one_instrument one.horizon) one.one_tier) weight_kept;
   pool = (sym (ap (λ n. n * c.horizon) one.no_pool ∙ none c.horizon), All-nil IsKept);
   full = one-kept full (length c.lines) one.one_line full_kept;
 }
@@ -118,7 +119,7 @@ closing-fits : (c : CaseView) (loss full : ℤ) (s : ℕ) → IsCase c → IsOne
 closing-fits c loss full s kept one within loss_kept full_kept = (
   record {
     den = omega arith;
-    amounts = one-kept (line c 0).amount (length c.lines * c.horizon) (product-one _ _ one.one_line one.horizon) (kept-by (line c 0).amount (10 ^ 9) (amount-within c kept one) (lit≤ tt));
+    amounts = one-kept (line c 0).amount (amount_count c) (product-one _ _ (product-one _ _ one.one_line one.horizon) one.one_tier) (kept-by (line c 0).amount (10 ^ 9) (amount-within c kept one) (lit≤ tt));
   },
   loss_kept,
   weights-fit c (weight_on c s) (pos 0) full one (length-set (no_weight c) s (pos 1) ∙ length-replicate (suc c.last) (pos 0)) (one-on-kept (suc c.last) s (omega (arith, within))) (omega arith) full_kept,

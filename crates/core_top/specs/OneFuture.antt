@@ -1,6 +1,6 @@
 -- A book of one position in one future that may be closed on day 1 alone, and the certificate of its margin.
 use Rattle.std.specs.Prelude.{◌≡◌, ℕ, suc, ◌+◌, ◌≤◌, List, [], ◌∷◌, length, replicate, slice_set, ℤ, pos, neg_ℤ, ◌-ℤ◌, ◌*ℤ◌, int_le, int_lt, Bool, true, false, not, ◌&&◌, ◌==◌, nat_le, if◌then◌else◌}
-use Rattle.core_book.specs.View.{CaseView, instrument, line, instrument_of, price, cash, limit, is_open, has_holidays, has_cash}
+use Rattle.core_book.specs.View.{CaseView, instrument, line, instrument_of, tiers, price, cash, limit, is_open, has_holidays, has_cash}
 use Rattle.core_book.specs.declared.parts.Kind.{Kind}
 use Rattle.core_book.specs.declared.parts.Kind.TheVariants.{Future, Security}
 use Rattle.core_book.specs.declared.parts.Side.{Side}
@@ -10,15 +10,17 @@ use Rattle.core_model.specs.declared.cert.Weights.{Weights}
 use Rattle.core_model.specs.declared.cert.Cert.{Cert}
 use Rattle.core_model.specs.declared.cert.Cert.TheVariants.{Closes, Cannot}
 
--- One instrument, which is a future, and one line, which is a position; one closing day; every day open; one
--- scenario; no pool and no fixed cash.
+-- One instrument, which is a future without an expiry, and one line, which is a position; one closing day and one
+-- tier; every day open; one scenario; no pool and no fixed cash.
 pub record IsOneFuture (c : CaseView) : Type 0 where
   pub horizon : c.horizon ≡ 1
   pub days : 1 ≤ c.last
+  pub one_tier : tiers c ≡ 1
   pub one_instrument : length c.instruments ≡ 1
   pub one_line : length c.lines ≡ 1
   pub one_scenario : length c.scenarios ≡ 1
   pub future : (instrument c (instrument_of c 0)).kind ≡ Future
+  pub no_expiry : (instrument c (instrument_of c 0)).expiry ≡ 0
   pub position : (line c 0).side ≡ Position
   pub opens : (v : ℕ) → is_open c (instrument_of c 0) v ≡ true
   pub no_pool : length c.pools ≡ 0
@@ -36,11 +38,12 @@ is_position Collateral = false
 
 abbrev pub is_one_position : CaseView → Bool
 is_one_position c =
-    (length c.instruments == 1) && (length c.lines == 1) && is_future (instrument c (instrument_of c 0)).kind && is_position (line c 0).side
+    (length c.instruments == 1) && (length c.lines == 1) && is_future (instrument c (instrument_of c 0)).kind
+    && ((instrument c (instrument_of c 0)).expiry == 0) && is_position (line c 0).side
 
 abbrev pub is_one_future : CaseView → Bool
 is_one_future c =
-    (c.horizon == 1) && nat_le (length c.holidays) 2 && not (has_holidays c) && (length c.scenarios == 1) && (length c.pools == 0) && not (has_cash c)
+    (c.horizon == 1) && (tiers c == 1) && nat_le (length c.holidays) 2 && not (has_holidays c) && (length c.scenarios == 1) && (length c.pools == 0) && not (has_cash c)
     && is_one_position c
 
 -- the price change of day 1 in the first scenario, and what it pays on one unit
@@ -60,7 +63,7 @@ may_close c = nat_le (instrument c (instrument_of c 0)).delay 1 && nat_le (mark_
 
 -- whether the limit of day 1 takes the whole amount
 abbrev pub limit_takes : CaseView → Bool
-limit_takes c = int_le (line c 0).amount (limit c (instrument_of c 0) 1)
+limit_takes c = int_le (line c 0).amount (limit c (instrument_of c 0) 1 1)
 
 -- weights over 1 for a case of one instrument, one line and no pool
 abbrev pub weights_over_one : List ℤ → ℤ → ℤ → Weights

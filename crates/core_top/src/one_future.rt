@@ -17,6 +17,7 @@ pub(crate) fn is_one_future(case: &Case) -> bool
     ensures { result ≡ is_one_future case.now }
 {
     case.horizon() == 1
+        && case.tiers() == 1
         && case.markets() <= 2
         && !case.has_holidays()
         && case.scenarios() == 1
@@ -25,7 +26,7 @@ pub(crate) fn is_one_future(case: &Case) -> bool
         && is_one_position(case)
 }
 
-/// Whether a case has one instrument, which is a future, and one line, which is a position.
+/// Whether a case has one instrument, which is a future without an expiry, and one line, which is a position.
 fn is_one_position(case: &Case) -> bool
     requires { IsCase case.now }
     ensures { result ≡ is_one_position case.now }
@@ -34,7 +35,8 @@ fn is_one_position(case: &Case) -> bool
         return false;
     }
     let line = case.line(0);
-    case.instrument(line.instrument).kind == Kind::Future && line.side == Side::Position
+    let instrument = case.instrument(line.instrument);
+    instrument.kind == Kind::Future && instrument.expiry == 0 && line.side == Side::Position
 }
 
 /// The instrument of the only line.
@@ -117,7 +119,7 @@ fn limit_takes(case: &Case) -> bool
     ensures { result ≡ limit_takes case.now }
 {
     let line = case.line(0);
-    line.amount <= case.limit(line.instrument, 1)
+    line.amount <= case.limit(line.instrument, 1, 1)
 }
 
 /// A list of one number.
