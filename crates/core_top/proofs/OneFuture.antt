@@ -45,7 +45,7 @@ still-after c a v one full =
     ap (λ n. sum_days n (closed_on c a 0)) count ∙ single ∙ tiers-one c (a.amount 0 1) one in
     omega (arith, ints, first, full)
 
-still-first : (c : CaseView) (a : Plan) → still_open c a.amount 0 1 1 ≡ (line c 0).amount *ℤ a.den
+still-first : (c : CaseView) (a : Plan) → still_open c a 0 1 ≡ (line c 0).amount *ℤ a.den
 unfolding sum_below
 still-first c a =
     let count : min (1 - 1) c.horizon ≡ 0 = omega arith in
