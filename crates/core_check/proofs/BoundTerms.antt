@@ -6,29 +6,29 @@ use Rattle.core_sums.specs.Places.{at, below, each}
 use Rattle.core_book.specs.View.{CaseView, line, pool, limit}
 use Rattle.core_model.specs.declared.cert.Weights.{Weights}
 use Rattle.core_model.specs.Closing.{line_count, fixed}
-use Rattle.core_model.specs.Bounds.{scenario_weight, limit_weight, pool_weight, full_weight}
-use Rattle.core_model.specs.Check.{by_scenario_and_day, by_instrument_and_day, by_pool_and_day, by_line, bound_terms, meets_test, refuses_test}
+use Rattle.core_model.specs.Check.{by_scenario_and_day, by_limit, by_pool_and_day, by_line, bound_terms, meets_test, refuses_test}
 use Rattle.core_model.specs.Fits.{WeightsFit}
-use Rattle.core_check.specs.Cells.{row_of, day_of, scenario_of, house_day_of}
 use Rattle.core_wide.specs.Steps.{summed}
 use Rattle.core_check.specs.Steps.{judged}
 use Rattle.core_sums.proofs.Joined.{each-single, map-cong}
-use Rattle.core_check.proofs.Tables.{limit-at, pool-at, scenario-at, scenarios-by_place, instruments-by_place, pools-by_place}
+use Rattle.core_model.proofs.Places.{limit-at, pool-at, scenario-at}
+use Rattle.core_check.proofs.Tables.{scenarios-by_place, limits-by_place, pools-by_place}
 use Rattle.core_wide.proofs.Adding.{part-on, part-ends, same-sum, sum-total}
 use Rattle.core_check.proofs.Judging.{sum-stays, sum-leaves}
+use Rattle.core_model.specs.Layout.{scenario_weight, limit_weight, pool_weight, full_weight, row_at_place, day_at_place, tier_at_place, pool_at_place, pool_day_at_place, scenario_at_place, house_day_at_place, limit_count, pool_count, scenario_count}
 
 -- the term at a place of each part
 abbrev pub fixed_term : CaseView → Weights → ℕ → List ℤ
-fixed_term c w p = neg_ℤ (at w.scenario p *ℤ fixed c (house_day_of c p)) ∷ []
+fixed_term c w p = neg_ℤ (at w.scenario p *ℤ fixed c (house_day_at_place c p)) ∷ []
 
 abbrev pub full_term : CaseView → Weights → ℕ → List ℤ
 full_term c w l = (at w.full l *ℤ (line c l).amount) ∷ []
 
 abbrev pub limit_term : CaseView → Weights → ℕ → List ℤ
-limit_term c w p = neg_ℤ (limit c (row_of c p) (day_of c p) *ℤ at w.limit p) ∷ []
+limit_term c w p = neg_ℤ (limit c (row_at_place c p) (day_at_place c p) (tier_at_place c p) *ℤ at w.limit p) ∷ []
 
 abbrev pub cap_term : CaseView → Weights → ℕ → List ℤ
-cap_term c w p = neg_ℤ ((pool c (row_of c p)).cap *ℤ at w.pool p) ∷ []
+cap_term c w p = neg_ℤ ((pool c (pool_at_place c p)).cap *ℤ at w.pool p) ∷ []
 
 -- each part
 abbrev fixed_part : CaseView → Weights → List ℤ
@@ -48,33 +48,33 @@ fixed-each : (c : CaseView) (w : Weights) → WeightsFit c w
     → by_scenario_and_day c (λ k t. neg_ℤ (scenario_weight c w k t *ℤ fixed c t)) ≡ fixed_part c w
 fixed-each c w fits =
     scenarios-by_place c (λ k t. neg_ℤ (scenario_weight c w k t *ℤ fixed c t))
-    ∙ map-cong (length c.scenarios * suc c.last) (λ p. neg_ℤ (scenario_weight c w (scenario_of c p) (house_day_of c p) *ℤ fixed c (house_day_of c p)))
-    (λ p. neg_ℤ (at w.scenario p *ℤ fixed c (house_day_of c p)))
-    (λ p under. ap (λ z. neg_ℤ (z *ℤ fixed c (house_day_of c p))) (scenario-at c w p))
-    ∙ sym (each-single (below (length c.scenarios * suc c.last)) (λ p. neg_ℤ (at w.scenario p *ℤ fixed c (house_day_of c p))))
+    ∙ map-cong (scenario_count c) (λ p. neg_ℤ (scenario_weight c w (scenario_at_place c p) (house_day_at_place c p) *ℤ fixed c (house_day_at_place c p)))
+    (λ p. neg_ℤ (at w.scenario p *ℤ fixed c (house_day_at_place c p)))
+    (λ p under. ap (λ z. neg_ℤ (z *ℤ fixed c (house_day_at_place c p))) (scenario-at c w p))
+    ∙ sym (each-single (below (scenario_count c)) (λ p. neg_ℤ (at w.scenario p *ℤ fixed c (house_day_at_place c p))))
     ∙ ap (λ (n : ℕ). each (below n) (fixed_term c w)) (sym fits.scenario.0)
 
 full-each : (c : CaseView) (w : Weights) → by_line c (λ l. full_weight w l *ℤ (line c l).amount) ≡ full_part c w
 full-each c w = sym (each-single (below (line_count c)) (λ l. full_weight w l *ℤ (line c l).amount))
 
 limits-each : (c : CaseView) (w : Weights) → WeightsFit c w
-    → by_instrument_and_day c (λ i u. neg_ℤ (limit c i u *ℤ limit_weight c w i u)) ≡ limits_part c w
+    → by_limit c (λ i u j. neg_ℤ (limit c i u j *ℤ limit_weight c w i u j)) ≡ limits_part c w
 limits-each c w fits =
-    instruments-by_place c (λ i u. neg_ℤ (limit c i u *ℤ limit_weight c w i u))
-    ∙ map-cong (length c.instruments * c.horizon) (λ p. neg_ℤ (limit c (row_of c p) (day_of c p) *ℤ limit_weight c w (row_of c p) (day_of c p)))
-    (λ p. neg_ℤ (limit c (row_of c p) (day_of c p) *ℤ at w.limit p))
-    (λ p under. ap (λ z. neg_ℤ (limit c (row_of c p) (day_of c p) *ℤ z)) (limit-at c w p))
-    ∙ sym (each-single (below (length c.instruments * c.horizon)) (λ p. neg_ℤ (limit c (row_of c p) (day_of c p) *ℤ at w.limit p)))
+    limits-by_place c (λ i u j. neg_ℤ (limit c i u j *ℤ limit_weight c w i u j))
+    ∙ map-cong (limit_count c) (λ p. neg_ℤ (limit c (row_at_place c p) (day_at_place c p) (tier_at_place c p) *ℤ limit_weight c w (row_at_place c p) (day_at_place c p) (tier_at_place c p)))
+    (λ p. neg_ℤ (limit c (row_at_place c p) (day_at_place c p) (tier_at_place c p) *ℤ at w.limit p))
+    (λ p under. ap (λ z. neg_ℤ (limit c (row_at_place c p) (day_at_place c p) (tier_at_place c p) *ℤ z)) (limit-at c w p))
+    ∙ sym (each-single (below (limit_count c)) (λ p. neg_ℤ (limit c (row_at_place c p) (day_at_place c p) (tier_at_place c p) *ℤ at w.limit p)))
     ∙ ap (λ (n : ℕ). each (below n) (limit_term c w)) (sym fits.limit.0)
 
 caps-each : (c : CaseView) (w : Weights) → WeightsFit c w
     → by_pool_and_day c (λ p u. neg_ℤ ((pool c p).cap *ℤ pool_weight c w p u)) ≡ caps_part c w
 caps-each c w fits =
     pools-by_place c (λ p u. neg_ℤ ((pool c p).cap *ℤ pool_weight c w p u))
-    ∙ map-cong (length c.pools * c.horizon) (λ p. neg_ℤ ((pool c (row_of c p)).cap *ℤ pool_weight c w (row_of c p) (day_of c p)))
-    (λ p. neg_ℤ ((pool c (row_of c p)).cap *ℤ at w.pool p))
-    (λ p under. ap (λ z. neg_ℤ ((pool c (row_of c p)).cap *ℤ z)) (pool-at c w p))
-    ∙ sym (each-single (below (length c.pools * c.horizon)) (λ p. neg_ℤ ((pool c (row_of c p)).cap *ℤ at w.pool p)))
+    ∙ map-cong (pool_count c) (λ p. neg_ℤ ((pool c (pool_at_place c p)).cap *ℤ pool_weight c w (pool_at_place c p) (pool_day_at_place c p)))
+    (λ p. neg_ℤ ((pool c (pool_at_place c p)).cap *ℤ at w.pool p))
+    (λ p under. ap (λ z. neg_ℤ ((pool c (pool_at_place c p)).cap *ℤ z)) (pool-at c w p))
+    ∙ sym (each-single (below (pool_count c)) (λ p. neg_ℤ ((pool c (pool_at_place c p)).cap *ℤ at w.pool p)))
     ∙ ap (λ (n : ℕ). each (below n) (cap_term c w)) (sym fits.pool.0)
 
 -- the terms of the bound, part by part
@@ -82,7 +82,7 @@ bound-parts : (c : CaseView) (w : Weights) → WeightsFit c w → bound_terms c 
 bound-parts c w fits =
     let a = by_scenario_and_day c (λ k t. neg_ℤ (scenario_weight c w k t *ℤ fixed c t)) in
     let b = by_line c (λ l. full_weight w l *ℤ (line c l).amount) in
-    let d = by_instrument_and_day c (λ i u. neg_ℤ (limit c i u *ℤ limit_weight c w i u)) in
+    let d = by_limit c (λ i u j. neg_ℤ (limit c i u j *ℤ limit_weight c w i u j)) in
     let e = by_pool_and_day c (λ p u. neg_ℤ ((pool c p).cap *ℤ pool_weight c w p u)) in
     append_assoc (a ++ b) d e
     ∙ append_assoc a b (d ++ e)

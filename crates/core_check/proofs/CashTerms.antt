@@ -6,16 +6,18 @@ use Rattle.std.proofs.lemmas.Bool.Decides.{Decides-int_eq, Decides-eqb, Decides-
 use Rattle.std.specs.Ordering.{int_eq}
 use mir.Syntax.{w128}
 use Rattle.core_sums.specs.Places.{below, days_to, each}
-use Rattle.core_book.specs.View.{CaseView, is_allowed}
-use Rattle.core_model.specs.Closing.{Amounts, line_count, fixed}
+use Rattle.core_book.specs.View.{CaseView, tiers, is_allowed}
+use Rattle.core_model.specs.Closing.{Plan, line_count, fixed}
 use Rattle.core_model.specs.Bounds.{unit}
-use Rattle.core_model.specs.Check.{cash_terms}
-use Rattle.core_check.specs.Cells.{row_of, day_of, scenario_of, house_day_of, IsScenarioCell}
+use Rattle.core_model.specs.Check.{by_allowed, cash_terms}
 use Rattle.core_wide.specs.Steps.{Stays, summed, with_product}
-use Rattle.core_check.specs.Steps.{cash_step}
-use Rattle.core_sums.proofs.Joined.{each-cong, each-days, map-filter}
+use Rattle.core_check.specs.Steps.{closing_step, cash_step}
 use Rattle.core_wide.proofs.Adding.{summed-stays, summed-on, summed-ends}
 use Rattle.core_wide.proofs.Stepping.{Skips, steps-skipped, sum_to}
+use Rattle.core_model.specs.declared.layout.DayCell.{DayCell}
+use Rattle.core_model.specs.Layout.{row_at_place, day_at_place, tier_at_place, scenario_at_place, house_day_at_place, amount_count, IsScenarioCell}
+use Rattle.core_check.proofs.Lists.{tiered-filter}
+use Rattle.core_check.proofs.Tables.{scenario-cell-at}
 
 -- ---- what one closing adds
 
@@ -31,27 +33,25 @@ step-paid : (equal allowed : Bool) (pays : ℤ) → (equal ≡ true → ⊥) →
 step-paid true allowed pays other e = absurd (other refl)
 step-paid false allowed pays other e = ap (λ b. if b then pays ∷ [] else []) e
 
--- an amount of 0 adds nothing, and neither does one on a day that is not allowed
-pub cash_step-zero : (c : CaseView) (a : Amounts) (k t p : ℕ) → a (row_of c p) (day_of c p) ≡ pos 0 → cash_step c a k t p ≡ []
-cash_step-zero c a k t p e =
-    step-zero (a (row_of c p) (day_of c p)) (a (row_of c p) (day_of c p) *ℤ unit c (row_of c p) k (day_of c p) t) (is_allowed c (row_of c p) (day_of c p)) e
+-- an amount of 0 adds nothing, and neither does one where it is not allowed
+pub closing_step-zero : (c : CaseView) (a : Plan) (k t l u j : ℕ) → a.amount l u j ≡ pos 0 → closing_step c a k t l u j ≡ []
+closing_step-zero c a k t l u j e = step-zero (a.amount l u j) (a.amount l u j *ℤ unit c l k u j t) (is_allowed c l u j) e
 
-pub cash_step-barred : (c : CaseView) (a : Amounts) (k t p : ℕ) → is_allowed c (row_of c p) (day_of c p) ≡ false → cash_step c a k t p ≡ []
-cash_step-barred c a k t p e =
-    step-barred (int_eq (a (row_of c p) (day_of c p)) (pos 0)) (is_allowed c (row_of c p) (day_of c p)) (a (row_of c p) (day_of c p) *ℤ unit c (row_of c p) k (day_of c p) t) e
+pub closing_step-barred : (c : CaseView) (a : Plan) (k t l u j : ℕ) → is_allowed c l u j ≡ false → closing_step c a k t l u j ≡ []
+closing_step-barred c a k t l u j e = step-barred (int_eq (a.amount l u j) (pos 0)) (is_allowed c l u j) (a.amount l u j *ℤ unit c l k u j t) e
 
 -- any other adds what it pays
-pub cash_step-paid : (c : CaseView) (a : Amounts) (k t p : ℕ) → (a (row_of c p) (day_of c p) ≡ pos 0 → ⊥) → is_allowed c (row_of c p) (day_of c p) ≡ true
-    → cash_step c a k t p ≡ (a (row_of c p) (day_of c p) *ℤ unit c (row_of c p) k (day_of c p) t) ∷ []
-cash_step-paid c a k t p other e =
-    step-paid (int_eq (a (row_of c p) (day_of c p)) (pos 0)) (is_allowed c (row_of c p) (day_of c p)) (a (row_of c p) (day_of c p) *ℤ unit c (row_of c p) k (day_of c p) t)
-    (λ equal. other ((Decides-int_eq (a (row_of c p) (day_of c p)) (pos 0)).0 equal)) e
+pub closing_step-paid : (c : CaseView) (a : Plan) (k t l u j : ℕ) → (a.amount l u j ≡ pos 0 → ⊥) → is_allowed c l u j ≡ true
+    → closing_step c a k t l u j ≡ (a.amount l u j *ℤ unit c l k u j t) ∷ []
+closing_step-paid c a k t l u j other e =
+    step-paid (int_eq (a.amount l u j) (pos 0)) (is_allowed c l u j) (a.amount l u j *ℤ unit c l k u j t)
+    (λ equal. other ((Decides-int_eq (a.amount l u j) (pos 0)).0 equal)) e
 
 -- ---- all terms of the cash
 
--- what a closing pays on a day that is allowed, be it 0 or not
-paid : CaseView → Amounts → ℕ → ℕ → ℕ → ℕ → List ℤ
-paid c a k t l u = if is_allowed c l u then (a l u *ℤ unit c l k u t) ∷ [] else []
+-- what a closing pays where it is allowed, be it 0 or not
+paid : CaseView → Plan → ℕ → ℕ → ℕ → ℕ → ℕ → List ℤ
+paid c a k t l u j = if is_allowed c l u j then (a.amount l u j *ℤ unit c l k u j t) ∷ [] else []
 
 step-skips : (z pays : ℤ) (allowed : Bool) (equal : Bool) → (equal ≡ true → z ≡ pos 0) → (z ≡ pos 0 → pays ≡ pos 0)
     → Skips (if allowed then pays ∷ [] else []) (if equal then [] else if allowed then pays ∷ [] else [])
@@ -59,43 +59,46 @@ step-skips z pays true true is_zero no_pay = inr (ap (λ w. w ∷ []) (no_pay (i
 step-skips z pays false true is_zero no_pay = inl refl
 step-skips z pays allowed false is_zero no_pay = inl refl
 
-paid-skips : (c : CaseView) (a : Amounts) (k t p : ℕ) → Skips (paid c a k t (row_of c p) (day_of c p)) (cash_step c a k t p)
+paid-skips : (c : CaseView) (a : Plan) (k t l u j : ℕ) → Skips (paid c a k t l u j) (closing_step c a k t l u j)
 unfolding paid
-paid-skips c a k t p =
-    step-skips (a (row_of c p) (day_of c p)) (a (row_of c p) (day_of c p) *ℤ unit c (row_of c p) k (day_of c p) t) (is_allowed c (row_of c p) (day_of c p))
-    (int_eq (a (row_of c p) (day_of c p)) (pos 0)) (Decides-int_eq (a (row_of c p) (day_of c p)) (pos 0)).0
-    (λ none. ap (λ z. z *ℤ unit c (row_of c p) k (day_of c p) t) none ∙ zero-*ℤ (unit c (row_of c p) k (day_of c p) t))
+paid-skips c a k t l u j =
+    step-skips (a.amount l u j) (a.amount l u j *ℤ unit c l k u j t) (is_allowed c l u j)
+    (int_eq (a.amount l u j) (pos 0)) (Decides-int_eq (a.amount l u j) (pos 0)).0
+    (λ none. ap (λ z. z *ℤ unit c l k u j t) none ∙ zero-*ℤ (unit c l k u j t))
 
--- the terms behind the first, by line and day and by place
-abbrev pub closing_terms : CaseView → Amounts → ℕ → ℕ → List ℤ
-closing_terms c a k t = each (below (line_count c)) (λ l. map (λ u. a l u *ℤ unit c l k u t) (filter (is_allowed c l) (days_to c.horizon)))
+-- the terms behind the first, by line, day and tier and by place
+abbrev pub closing_terms : CaseView → Plan → ℕ → ℕ → List ℤ
+closing_terms c a k t = each (below (line_count c)) (λ l. by_allowed c l (λ u j. a.amount l u j *ℤ unit c l k u j t))
 
-closing_terms-places : (c : CaseView) (a : Amounts) (k t : ℕ)
-    → closing_terms c a k t ≡ each (below (length c.lines * c.horizon)) (λ p. paid c a k t (row_of c p) (day_of c p))
+closing_terms-places : (c : CaseView) (a : Plan) (k t : ℕ)
+    → closing_terms c a k t ≡ each (below (amount_count c)) (λ n. paid c a k t (row_at_place c n) (day_at_place c n) (tier_at_place c n))
 unfolding paid
 closing_terms-places c a k t =
-    each-cong (line_count c) (λ l. map (λ u. a l u *ℤ unit c l k u t) (filter (is_allowed c l) (days_to c.horizon))) (λ l. each (days_to c.horizon) (paid c a k t l))
-    (λ l under. map-filter (is_allowed c l) (λ u. a l u *ℤ unit c l k u t) (days_to c.horizon))
-    ∙ each-days (line_count c) c.horizon (paid c a k t)
+    tiered-filter (line_count c) c.horizon (tiers c) (is_allowed c) (λ l u j. a.amount l u j *ℤ unit c l k u j t)
 
 -- The steps add up to what the terms do.
-pub steps-cash : (c : CaseView) (s : ℤ) (a : Amounts) (k t : ℕ) → Stays s
-    → sum_to s (cash_step c a k t) (length c.lines * c.horizon) ≡ summed s (closing_terms c a k t) (closing_terms c a k t)
+pub steps-cash : (c : CaseView) (s : ℤ) (a : Plan) (k t : ℕ) → Stays s
+    → sum_to s (cash_step c a k t) (amount_count c) ≡ summed s (closing_terms c a k t) (closing_terms c a k t)
 steps-cash c s a k t stays =
-    sym (steps-skipped s (λ p. paid c a k t (row_of c p) (day_of c p)) (cash_step c a k t) (length c.lines * c.horizon) stays (λ p under. paid-skips c a k t p))
+    sym
+    (steps-skipped s (λ n. paid c a k t (row_at_place c n) (day_at_place c n) (tier_at_place c n)) (cash_step c a k t) (amount_count c) stays
+    (λ n under. paid-skips c a k t (row_at_place c n) (day_at_place c n) (tier_at_place c n)))
     ∙ ap (λ zs. summed s zs zs) (sym (closing_terms-places c a k t))
 
 -- The cash is the sum of its first term and of what the steps add to that.
-pub cash-on : (c : CaseView) (d z : ℤ) (a : Amounts) (k t : ℕ) → with_product (pos 0) (d *ℤ fixed c t) ≡ Some z
-    → sum_to z (cash_step c a k t) (length c.lines * c.horizon) ≡ summed (pos 0) (cash_terms c d a k t) (cash_terms c d a k t)
-cash-on c d z a k t e =
-    steps-cash c z a k t (summed-stays (pos 0) z ((d *ℤ fixed c t) ∷ []) ((d *ℤ fixed c t) ∷ []) refl e)
-    ∙ sym (summed-on (pos 0) z ((d *ℤ fixed c t) ∷ []) (closing_terms c a k t) ((d *ℤ fixed c t) ∷ []) (closing_terms c a k t) e)
+pub cash-on : (c : CaseView) (z : ℤ) (a : Plan) (k t : ℕ) → with_product (pos 0) (a.den *ℤ fixed c t) ≡ Some z
+    → sum_to z (cash_step c a k t) (amount_count c) ≡ summed (pos 0) (cash_terms c a k t) (cash_terms c a k t)
+cash-on c z a k t e =
+    let first : List ℤ = (a.den *ℤ fixed c t) ∷ [] in
+    steps-cash c z a k t (summed-stays (pos 0) z first first refl e)
+    ∙ sym (summed-on (pos 0) z first (closing_terms c a k t) first (closing_terms c a k t) e)
 
 -- and there is none where the first term leaves
-pub cash-ends : (c : CaseView) (d : ℤ) (a : Amounts) (k t : ℕ) → with_product (pos 0) (d *ℤ fixed c t) ≡ None
-    → None ≡ summed (pos 0) (cash_terms c d a k t) (cash_terms c d a k t)
-cash-ends c d a k t e = sym (summed-ends (pos 0) ((d *ℤ fixed c t) ∷ []) (closing_terms c a k t) ((d *ℤ fixed c t) ∷ []) (closing_terms c a k t) e)
+pub cash-ends : (c : CaseView) (a : Plan) (k t : ℕ) → with_product (pos 0) (a.den *ℤ fixed c t) ≡ None
+    → None ≡ summed (pos 0) (cash_terms c a k t) (cash_terms c a k t)
+cash-ends c a k t e =
+    let first : List ℤ = (a.den *ℤ fixed c t) ∷ [] in
+    sym (summed-ends (pos 0) first (closing_terms c a k t) first (closing_terms c a k t) e)
 
 -- ---- the loss
 
@@ -117,10 +120,8 @@ loss-same cash loss first second =
 
 -- ---- the cash at the scenario and the day of a place
 
-pub cash-at : (c : CaseView) (d : ℤ) (a : Amounts) (rows p k t : ℕ) (r : Option ℤ) → IsScenarioCell c rows p k t
-    → r ≡ summed (pos 0) (cash_terms c d a k t) (cash_terms c d a k t)
-    → summed (pos 0) (cash_terms c d a (scenario_of c p) (house_day_of c p)) (cash_terms c d a (scenario_of c p) (house_day_of c p)) ≡ r
-cash-at c d a rows p k t r cell e =
-    ap (λ (j : ℕ). summed (pos 0) (cash_terms c d a j (house_day_of c p)) (cash_terms c d a j (house_day_of c p))) (sym cell.row_is)
-    ∙ ap (λ (s : ℕ). summed (pos 0) (cash_terms c d a k s) (cash_terms c d a k s)) (sym cell.day_is)
-    ∙ sym e
+pub cash-at : (c : CaseView) (a : Plan) (rows p : ℕ) (cell : DayCell) (r : Option ℤ) → IsScenarioCell c rows p cell
+    → r ≡ summed (pos 0) (cash_terms c a cell.row cell.day) (cash_terms c a cell.row cell.day)
+    → summed (pos 0) (cash_terms c a (scenario_at_place c p) (house_day_at_place c p)) (cash_terms c a (scenario_at_place c p) (house_day_at_place c p)) ≡ r
+cash-at c a rows p cell r is e =
+    sym (scenario-cell-at c rows p cell (λ k t. summed (pos 0) (cash_terms c a k t) (cash_terms c a k t)) is) ∙ sym e

@@ -4,33 +4,34 @@ use Rattle.std.proofs.lemmas.Int.{ints}
 use Rattle.core_book.specs.View.{CaseView}
 use Rattle.core_model.specs.declared.cert.Calendar.{Calendar}
 use Rattle.core_model.specs.declared.cert.Weights.{Weights}
-use Rattle.core_model.specs.Bounds.{amounts_of}
-use Rattle.core_model.specs.Check.{Place, Verdict, Passed, Failed, denominator_test, sign_test, allowed_test, full_test, limit_test, pool_test, loss_test, reached_test, weight_tests, sum_test, charge_test, by_line, by_line_and_day, by_instrument_and_day, by_pool_and_day, by_scenario_and_day, places_of, verdict_of, calendar_places}
+use Rattle.core_model.specs.Check.{Place, Verdict, Passed, Failed, denominator_test, sign_test, allowed_test, full_test, limit_test, pool_test, loss_test, reached_test, weight_tests, sum_test, charge_test, by_line, by_closing, by_limit, by_pool_and_day, by_scenario_and_day, places_of, verdict_of, calendar_places}
 use Rattle.core_check.specs.declared.fault.CheckFault.{CheckFault}
 use Rattle.core_check.specs.declared.fault.CheckFault.TheVariants.{No}
 use Rattle.core_check.specs.Answers.{answer_of, answer}
 use Rattle.core_check.proofs.Order.{answer-on, answer-ends}
+use Rattle.core_model.specs.Layout.{plan_of}
+use Rattle.core_model.specs.declared.condition.Condition.TheVariants.{AllowedClosings, AmountSigns, Caps, Charges, Denominators, FullClosings, Limits, Losses, WeightSigns, WeightSum, WorstLoss}
 
 -- ---- a calendar
 
 abbrev pub signs : CaseView → Calendar → List Place
-signs c x = places_of 2 1 (by_line_and_day c (sign_test (amounts_of c x)))
+signs c x = places_of AmountSigns 1 (by_closing c (sign_test (plan_of c x)))
 
 abbrev pub days : CaseView → Calendar → List Place
-days c x = places_of 3 1 (by_line_and_day c (allowed_test c (amounts_of c x)))
+days c x = places_of AllowedClosings 1 (by_closing c (allowed_test c (plan_of c x)))
 
 abbrev pub lines : CaseView → Calendar → List Place
-lines c x = places_of 4 1 (by_line c (full_test c x.den (amounts_of c x)))
+lines c x = places_of FullClosings 1 (by_line c (full_test c (plan_of c x)))
 
 abbrev pub limits : CaseView → Calendar → List Place
-limits c x = places_of 5 1 (by_instrument_and_day c (limit_test c x.den (amounts_of c x)))
+limits c x = places_of Limits 1 (by_limit c (limit_test c (plan_of c x)))
 
 abbrev pub caps : CaseView → Calendar → List Place
-caps c x = places_of 6 1 (by_pool_and_day c (pool_test c x.den (amounts_of c x)))
+caps c x = places_of Caps 1 (by_pool_and_day c (pool_test c (plan_of c x)))
 
 abbrev pub losses : CaseView → Calendar → ℤ → List Place
 losses c x loss =
-    places_of 7 1 (by_scenario_and_day c (loss_test c x.den (amounts_of c x) loss)) ++ places_of 8 1 (reached_test c x.den (amounts_of c x) loss ∷ [])
+    places_of Losses 1 (by_scenario_and_day c (loss_test c (plan_of c x) loss)) ++ places_of WorstLoss 1 (reached_test c (plan_of c x) loss ∷ [])
 
 -- the conditions from one on
 abbrev pub from_caps : CaseView → Calendar → ℤ → List Place
@@ -49,21 +50,21 @@ from_days c x loss = days c x ++ from_lines c x loss
 nested : (a b c d e f g : List Place) → a ++ b ++ c ++ d ++ e ++ f ++ g ≡ a ++ (b ++ (c ++ (d ++ (e ++ (f ++ g)))))
 nested a b c d e f g = simp append_assoc
 
-pub calendar-nested : (c : CaseView) (x : Calendar) (loss : ℤ) → calendar_places c x.den (amounts_of c x) loss ≡ signs c x ++ from_days c x loss
+pub calendar-nested : (c : CaseView) (x : Calendar) (loss : ℤ) → calendar_places c (plan_of c x) loss ≡ signs c x ++ from_days c x loss
 calendar-nested c x loss =
-    nested (signs c x) (days c x) (lines c x) (limits c x) (caps c x) (places_of 7 1 (by_scenario_and_day c (loss_test c x.den (amounts_of c x) loss)))
-    (places_of 8 1 (reached_test c x.den (amounts_of c x) loss ∷ []))
+    nested (signs c x) (days c x) (lines c x) (limits c x) (caps c x) (places_of Losses 1 (by_scenario_and_day c (loss_test c (plan_of c x) loss)))
+    (places_of WorstLoss 1 (reached_test c (plan_of c x) loss ∷ []))
 
 -- ---- weights
 
 abbrev pub weight_signs : CaseView → Weights → List Place
-weight_signs c w = places_of 9 1 (weight_tests c w)
+weight_signs c w = places_of WeightSigns 1 (weight_tests c w)
 
 abbrev pub weight_sum : CaseView → Weights → ℤ → List Place
-weight_sum c w sum = places_of 10 1 (sum_test c w sum ∷ [])
+weight_sum c w sum = places_of WeightSum 1 (sum_test c w sum ∷ [])
 
 abbrev pub charged : CaseView → Weights → List Place
-charged c w = places_of 11 1 (by_line_and_day c (charge_test c w))
+charged c w = places_of Charges 1 (by_closing c (charge_test c w))
 
 abbrev pub weighed : CaseView → Weights → ℤ → List Place
 weighed c w sum = weight_signs c w ++ weight_sum c w sum ++ charged c w
@@ -71,10 +72,10 @@ weighed c w sum = weight_signs c w ++ weight_sum c w sum ++ charged c w
 -- ---- denominators
 
 abbrev pub dens : ℤ → ℤ → List Place
-dens d e = places_of 1 1 (denominator_test d ∷ denominator_test e ∷ [])
+dens d e = places_of Denominators 1 (denominator_test d ∷ denominator_test e ∷ [])
 
 abbrev pub den : ℤ → List Place
-den e = places_of 1 2 (denominator_test e ∷ [])
+den e = places_of Denominators 2 (denominator_test e ∷ [])
 
 too_low : (d : ℤ) → d <ℤ pos 1 → int_le (pos 1) d ≡ false
 too_low d low = grind (arith, ints, low)

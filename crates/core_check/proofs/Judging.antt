@@ -1,5 +1,5 @@
 -- What a test answers.
-use Rattle.std.proofs.Common.{◌≡◌, refl, sym, ◌∙◌, ap, arith, ℤ, pos, ◌+ℤ◌, Bool, true, false, ◌||◌, List, [], ◌∷◌, ◌++◌, map, if◌then◌else◌, Some, None}
+use Rattle.std.proofs.Common.{◌≡◌, refl, sym, ◌∙◌, ap, arith, ℤ, pos, ◌+ℤ◌, Bool, true, false, ◌||◌, List, [], ◌∷◌, ◌++◌, map, append_assoc, if◌then◌else◌, Some, None}
 use Rattle.std.proofs.lemmas.Int.{ints}
 use Rattle.std.proofs.lemmas.List.Folds.{list_any-append}
 use Rattle.core_sums.specs.Sums.{total, partial_sums}
@@ -17,11 +17,12 @@ plain-judged b = refl
 
 -- A sum and one number besides: both stay, and the test is of both; the sum leaves; the number leaves.
 abbrev pub sum_test_of : (ℤ → ℤ → Bool) → List ℤ → List ℤ → ℤ → Test
-sum_test_of test ns xs whole = record { numbers = (ns ++ partial_sums (pos 0) xs) ++ (whole ∷ []); holds = test (total xs) whole }
+sum_test_of test ns xs whole = record { numbers = ns ++ (partial_sums (pos 0) xs ++ (whole ∷ [])); holds = test (total xs) whole }
 
 leaves-apart : (ns xs : List ℤ) (whole : ℤ)
-    → any_leaves ((ns ++ partial_sums (pos 0) xs) ++ (whole ∷ [])) ≡ (any_leaves (ns ++ partial_sums (pos 0) xs) || (leaves most whole || false))
-leaves-apart ns xs whole = list_any-append (leaves most) (ns ++ partial_sums (pos 0) xs) (whole ∷ [])
+    → any_leaves (ns ++ (partial_sums (pos 0) xs ++ (whole ∷ []))) ≡ (any_leaves (ns ++ partial_sums (pos 0) xs) || (leaves most whole || false))
+leaves-apart ns xs whole =
+    ap any_leaves (sym (append_assoc ns (partial_sums (pos 0) xs) (whole ∷ []))) ∙ list_any-append (leaves most) (ns ++ partial_sums (pos 0) xs) (whole ∷ [])
 
 or-second : (a b : Bool) → b ≡ true → (a || (b || false)) ≡ true
 or-second true b e = refl
@@ -33,21 +34,21 @@ unfolding summed judged
 both-stay test ns xs whole z w e same stays =
     let first = some-chosen (any_leaves (ns ++ partial_sums (pos 0) xs)) (pos 0 +ℤ total xs) z e in
     let sum : z ≡ total xs = omega (arith, ints, first.1) in
-    let none : any_leaves ((ns ++ partial_sums (pos 0) xs) ++ (whole ∷ [])) ≡ false =
+    let none : any_leaves (ns ++ (partial_sums (pos 0) xs ++ (whole ∷ []))) ≡ false =
     leaves-apart ns xs whole ∙ ap (λ b. b || (leaves most whole || false)) first.0 ∙ ap (λ b. b || false) stays in
     ap (λ y. Some (test y w)) sum ∙ ap (λ y. Some (test (total xs) y)) same ∙ sym (ap (λ b. if b then None else Some (test (total xs) whole)) none)
 
 pub first-leaves : (test : ℤ → ℤ → Bool) (ns xs : List ℤ) (whole : ℤ) → summed (pos 0) ns xs ≡ None → None ≡ judged (sum_test_of test ns xs whole)
 unfolding summed judged
 first-leaves test ns xs whole e =
-    let out : any_leaves ((ns ++ partial_sums (pos 0) xs) ++ (whole ∷ [])) ≡ true =
+    let out : any_leaves (ns ++ (partial_sums (pos 0) xs ++ (whole ∷ []))) ≡ true =
     leaves-apart ns xs whole ∙ ap (λ b. b || (leaves most whole || false)) (none-chosen (any_leaves (ns ++ partial_sums (pos 0) xs)) (pos 0 +ℤ total xs) e) in
     sym (ap (λ b. if b then None else Some (test (total xs) whole)) out)
 
 pub second-leaves : (test : ℤ → ℤ → Bool) (ns xs : List ℤ) (whole : ℤ) → Leaves whole → None ≡ judged (sum_test_of test ns xs whole)
 unfolding judged
 second-leaves test ns xs whole out =
-    let all : any_leaves ((ns ++ partial_sums (pos 0) xs) ++ (whole ∷ [])) ≡ true =
+    let all : any_leaves (ns ++ (partial_sums (pos 0) xs ++ (whole ∷ []))) ≡ true =
     leaves-apart ns xs whole ∙ or-second (any_leaves (ns ++ partial_sums (pos 0) xs)) (leaves most whole) out in
     sym (ap (λ b. if b then None else Some (test (total xs) whole)) all)
 
@@ -90,3 +91,10 @@ unfolding summed judged
 sum-leaves ts b e =
     let out = none-chosen (any_leaves (ts ++ partial_sums (pos 0) ts)) (pos 0 +ℤ total ts) e in
     sym (ap (λ w. if w then None else Some b) out)
+
+-- a test that is made in some cases alone
+pub judged-where : (b : Bool) (x : Test) → b ≡ true → judged x ≡ judged (if b then x else plain true)
+judged-where b x e = sym (ap (λ b. judged (if b then x else plain true)) e)
+
+pub judged-none : (b : Bool) (x : Test) → b ≡ false → Some true ≡ judged (if b then x else plain true)
+judged-none b x e = plain-judged true ∙ sym (ap (λ b. judged (if b then x else plain true)) e)

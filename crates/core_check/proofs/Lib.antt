@@ -1,6 +1,9 @@
 mod Weighted
+mod Slots
 mod Duality
 mod Charging
+mod Pools
+mod Units
 pub mod Weak
 pub mod Least
 mod Passing

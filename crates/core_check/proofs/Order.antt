@@ -4,6 +4,8 @@ use Rattle.std.proofs.lemmas.List.{map-append, length-map}
 use Rattle.core_sums.specs.Places.{below}
 use Rattle.core_sums.specs.Widths.{any_leaves}
 use Rattle.core_sums.proofs.Lists.{length-below}
+use Rattle.core_model.specs.declared.condition.Condition.{Condition}
+use Rattle.core_model.specs.Conditions.{number_of}
 use Rattle.core_model.specs.Check.{Test, Place, places_of, Verdict, Passed, Failed, Wide, verdict_of}
 use Rattle.core_check.specs.declared.fault.CheckFault.{CheckFault}
 use Rattle.core_check.specs.declared.fault.CheckFault.TheVariants.{No, TooWide, NoMemory}
@@ -12,13 +14,13 @@ use Rattle.core_check.specs.Answers.{Refuses, answer_of, answer, answer_at}
 use Rattle.core_sums.proofs.Joined.{below-append}
 
 -- places are numbered on behind others
-pub places-append : (condition first : ℕ) (xs ys : List Test)
+pub places-append : (condition : Condition) (first : ℕ) (xs ys : List Test)
     → places_of condition first (xs ++ ys) ≡ places_of condition first xs ++ places_of condition (first + length xs) ys
 unfolding places_of
 places-append condition first [] ys = let same : first ≡ first + 0 = omega arith in ap (λ (n : ℕ). places_of condition n ys) same
 places-append condition first (x ∷ xs) ys =
     let moved : suc first + length xs ≡ first + suc (length xs) = omega arith in
-    let place : Place = record { condition = condition; place = first; test = x } in
+    let place : Place = record { condition = number_of condition; place = first; test = x } in
     ap (λ zs. place ∷ zs) (places-append condition (suc first) xs ys)
     ∙ ap (λ (n : ℕ). place ∷ (places_of condition (suc first) xs ++ places_of condition n ys)) moved
 
@@ -78,29 +80,29 @@ answer-ends xs ys fault e =
 -- ---- the places of a condition
 
 -- the answer to one place
-answer-one : (condition place : ℕ) (x : Test) → answer_at condition place (judged x) ≡ answer (places_of condition place (x ∷ []))
+answer-one : (condition : Condition) (place : ℕ) (x : Test) → answer_at condition place (judged x) ≡ answer (places_of condition place (x ∷ []))
 unfolding judged places_of verdict_of
 answer-one condition place x = by_test (any_leaves x.numbers) x.holds
   where
-    by_test : (w h : Bool) → answer_at condition place (if w then None else Some h) ≡ answer_of (if w then Wide condition place else if h then Passed else Failed condition place)
+    by_test : (w h : Bool) → answer_at condition place (if w then None else Some h) ≡ answer_of (if w then Wide (number_of condition) place else if h then Passed else Failed (number_of condition) place)
     by_test true h = refl
     by_test false true = refl
     by_test false false = refl
 
 -- the answer to one place, by the option that judges it
-pub place-answers : (condition place : ℕ) (x : Test) (r : Option Bool) (answered : Result (Unit {0}) CheckFault) → r ≡ judged x → answered ≡ answer_at condition place r
+pub place-answers : (condition : Condition) (place : ℕ) (x : Test) (r : Option Bool) (answered : Result (Unit {0}) CheckFault) → r ≡ judged x → answered ≡ answer_at condition place r
     → answered ≡ answer (places_of condition place (x ∷ []))
 place-answers condition place x r answered judges at = at ∙ ap (answer_at condition place) judges ∙ answer-one condition place x
 
-abbrev pub tested : ℕ → ℕ → (ℕ → Test) → ℕ → List Place
+abbrev pub tested : Condition → ℕ → (ℕ → Test) → ℕ → List Place
 tested condition first tests i = places_of condition first (map tests (below i))
 
-pub places-none : (condition first : ℕ) (tests : ℕ → Test) → verdict_of (tested condition first tests 0) ≡ Passed
+pub places-none : (condition : Condition) (first : ℕ) (tests : ℕ → Test) → verdict_of (tested condition first tests 0) ≡ Passed
 unfolding below places_of verdict_of
 places-none condition first tests = refl
 
 -- one place more
-tested-more : (condition first : ℕ) (tests : ℕ → Test) (i : ℕ) → tested condition first tests (i + 1) ≡ tested condition first tests i ++ places_of condition (first + i) (tests i ∷ [])
+tested-more : (condition : Condition) (first : ℕ) (tests : ℕ → Test) (i : ℕ) → tested condition first tests (i + 1) ≡ tested condition first tests i ++ places_of condition (first + i) (tests i ∷ [])
 unfolding below
 tested-more condition first tests i =
     let next : i + 1 ≡ suc i = omega arith in
@@ -110,7 +112,7 @@ tested-more condition first tests i =
     ∙ places-append condition first (map tests (below i)) (tests i ∷ [])
     ∙ ap (λ (n : ℕ). tested condition first tests i ++ places_of condition (first + n) (tests i ∷ [])) long
 
-pub places-more : (condition first : ℕ) (tests : ℕ → Test) (i : ℕ) (r : Option Bool) (answered : Result (Unit {0}) CheckFault)
+pub places-more : (condition : Condition) (first : ℕ) (tests : ℕ → Test) (i : ℕ) (r : Option Bool) (answered : Result (Unit {0}) CheckFault)
     → verdict_of (tested condition first tests i) ≡ Passed → r ≡ judged (tests i) → answered ≡ answer_at condition (first + i) r
     → answer (tested condition first tests (i + 1)) ≡ answered
 places-more condition first tests i r answered before judges at =
@@ -119,7 +121,7 @@ places-more condition first tests i r answered before judges at =
     ∙ sym (place-answers condition (first + i) (tests i) r answered judges at)
 
 -- where some places answer a fault, more do
-pub places-end : (condition first : ℕ) (tests : ℕ → Test) (i k : ℕ) (fault : CheckFault) → answer (tested condition first tests i) ≡ Err fault
+pub places-end : (condition : Condition) (first : ℕ) (tests : ℕ → Test) (i k : ℕ) (fault : CheckFault) → answer (tested condition first tests i) ≡ Err fault
     → answer (tested condition first tests (i + k)) ≡ Err fault
 places-end condition first tests i k fault e =
     ap (λ zs. answer (places_of condition first (map tests zs))) (below-append i k)

@@ -5,6 +5,7 @@ use Rattle.std.proofs.lemmas.List.Folds.{list_all-append, list_all-map, list_any
 use Rattle.std.specs.List.{list_all, list_any}
 use Rattle.core_sums.specs.Places.{below, days_to, each}
 use Rattle.core_sums.proofs.Lists.{days_to-below}
+use Rattle.core_model.specs.declared.condition.Condition.{Condition}
 use Rattle.core_model.specs.Check.{Test, Place, places_of, pairs}
 
 -- every item of both lists passes
@@ -61,6 +62,21 @@ all-by_day n h f p e i u under first last =
     all-days h (λ v. p (f i v))
     (all-below n (λ j. list_all (λ v. p (f j v)) (days_to h)) (sym (all-pairs (below n) (days_to h) f p) ∙ e) i under) u first last
 
+-- a test of what is joined of each item is one of each part
+all-each : {A B : Type 0} (xs : List A) (g : A → List B) (p : B → Bool) → list_all p (each xs g) ≡ list_all (λ x. list_all p (g x)) xs
+unfolding each
+all-each [] g p = refl
+all-each (x ∷ xs) g p = list_all-append p (g x) (each xs g) ∙ ap (λ b. list_all p (g x) && b) (all-each xs g p)
+
+-- f of each index, day and tier passes
+pub all-tiered : {A : Type 0} (n h t : ℕ) (f : ℕ → ℕ → ℕ → A) (p : A → Bool)
+    → list_all p (each (below n) (λ i. pairs (days_to h) (days_to t) (f i))) ≡ true
+    → (i u j : ℕ) → i < n → (1 ≤ u) × (u ≤ h) → (1 ≤ j) × (j ≤ t) → p (f i u j) ≡ true
+all-tiered n h t f p e i u j under day tier =
+    let row = all-below n (λ k. list_all p (pairs (days_to h) (days_to t) (f k))) (sym (all-each (below n) (λ k. pairs (days_to h) (days_to t) (f k)) p) ∙ e) i under in
+    all-days t (λ v. p (f i u v))
+    (all-days h (λ v. list_all (λ z. p (f i v z)) (days_to t)) (sym (all-pairs (days_to h) (days_to t) (f i) p) ∙ row) u day.0 day.1) j tier.0 tier.1
+
 -- f of each two indices passes
 pub all-by_index : {A : Type 0} (n m : ℕ) (f : ℕ → ℕ → A) (p : A → Bool) → list_all p (pairs (below n) (below m) f) ≡ true
     → (i j : ℕ) → i < n → j < m → p (f i j) ≡ true
@@ -115,7 +131,7 @@ abbrev pub place_holds : Place → Bool
 place_holds x = x.test.holds
 
 -- the places of a condition hold just where its tests do
-pub places-hold : (condition first : ℕ) (xs : List Test) → list_all place_holds (places_of condition first xs) ≡ true → list_all holds xs ≡ true
+pub places-hold : (condition : Condition) (first : ℕ) (xs : List Test) → list_all place_holds (places_of condition first xs) ≡ true → list_all holds xs ≡ true
 unfolding places_of
 places-hold condition first [] e = refl
 places-hold condition first (x ∷ xs) e = both (holds x) (list_all place_holds (places_of condition (suc first) xs)) (list_all holds xs) e (places-hold condition (suc first) xs)

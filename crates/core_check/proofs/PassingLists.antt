@@ -49,6 +49,24 @@ by_day-pass n h f p each_passes =
     sym (pairs-pass (below n) (days_to h) f p)
     ∙ below-pass n (λ i. list_all (λ u. p (f i u)) (days_to h)) (λ i under. days-pass h (λ u. p (f i u)) (λ u first last. each_passes i u under first last))
 
+-- what is joined passes where each part does
+each-pass : {A B : Type 0} (xs : List A) (g : A → List B) (p : B → Bool) → list_all (λ x. list_all p (g x)) xs ≡ list_all p (each xs g)
+unfolding each
+each-pass [] g p = refl
+each-pass (x ∷ xs) g p = ap (λ b. list_all p (g x) && b) (each-pass xs g p) ∙ sym (list_all-append p (g x) (each xs g))
+
+-- f of the indices, days and tiers passes where f of each does
+pub tiered-pass : {A : Type 0} (n h t : ℕ) (f : ℕ → ℕ → ℕ → A) (p : A → Bool)
+    → ((i u j : ℕ) → i < n → (1 ≤ u) × (u ≤ h) → (1 ≤ j) × (j ≤ t) → p (f i u j) ≡ true)
+    → list_all p (each (below n) (λ i. pairs (days_to h) (days_to t) (f i))) ≡ true
+tiered-pass n h t f p each_passes =
+    sym (each-pass (below n) (λ i. pairs (days_to h) (days_to t) (f i)) p)
+    ∙ below-pass n (λ i. list_all p (pairs (days_to h) (days_to t) (f i)))
+    (λ i under.
+    sym (pairs-pass (days_to h) (days_to t) (f i) p)
+    ∙ days-pass h (λ u. list_all (λ j. p (f i u j)) (days_to t))
+    (λ u first last. days-pass t (λ j. p (f i u j)) (λ j from to. each_passes i u j under (first, last) (from, to))))
+
 -- f of two indices passes where f of each two does
 pub by_index-pass : {A : Type 0} (n m : ℕ) (f : ℕ → ℕ → A) (p : A → Bool) → ((i j : ℕ) → i < n → j < m → p (f i j) ≡ true)
     → list_all p (pairs (below n) (below m) f) ≡ true

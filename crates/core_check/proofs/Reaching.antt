@@ -10,13 +10,16 @@ use Rattle.core_sums.specs.Places.{below}
 use Rattle.core_sums.specs.Widths.{any_leaves}
 use Rattle.core_sums.proofs.Lists.{length-below, get_or-below}
 use Rattle.core_book.specs.View.{CaseView}
-use Rattle.core_model.specs.Closing.{Amounts}
+use Rattle.core_model.specs.Closing.{Plan}
+use Rattle.core_model.specs.declared.condition.Condition.{Condition}
+use Rattle.core_model.specs.Conditions.{number_of}
 use Rattle.core_model.specs.Check.{Test, places_of, cash_terms, loss_test, reached_test, by_scenario_and_day, Passed, Failed, Wide, verdict_of}
-use Rattle.core_check.specs.Cells.{scenario_of, house_day_of}
 use Rattle.core_check.specs.Steps.{LossesStay}
 use Rattle.core_check.proofs.Order.{verdict-first}
 use Rattle.core_check.proofs.Passing.{all-by_index}
 use Rattle.core_check.proofs.Tables.{scenarios-by_place}
+use Rattle.core_model.specs.Layout.{house_day_at_place, scenario_at_place, scenario_count}
+use Rattle.core_model.specs.declared.condition.Condition.TheVariants.{Losses}
 
 -- ---- a test of one place after the other
 
@@ -42,16 +45,16 @@ any-at n i f p under here =
 
 -- ---- the calendar's loss
 
--- the cash at a place
-abbrev pub cash_of_place : CaseView → ℤ → Amounts → ℕ → ℤ
-cash_of_place c d a p = total (cash_terms c d a (scenario_of c p) (house_day_of c p))
+-- the terms of the cash at a place
+abbrev pub terms_at_place : CaseView → Plan → ℕ → List ℤ
+terms_at_place c a p = cash_terms c a (scenario_at_place c p) (house_day_at_place c p)
 
 -- the loss at some place before n is the calendar's
-abbrev pub reached_before : CaseView → ℤ → Amounts → ℤ → ℕ → Bool
-reached_before c d a loss n = list_any (λ cash. int_eq (neg_ℤ cash) loss) (map (cash_of_place c d a) (below n))
+abbrev pub reached_before : CaseView → Plan → ℤ → ℕ → Bool
+reached_before c a loss n = list_any (λ terms. int_eq (neg_ℤ (total terms)) loss) (map (terms_at_place c a) (below n))
 
-pub reached-places : (c : CaseView) (d : ℤ) (a : Amounts) (loss : ℤ) → reached_before c d a loss (length c.scenarios * suc c.last) ≡ (reached_test c d a loss).holds
-reached-places c d a loss = ap (list_any (λ cash. int_eq (neg_ℤ cash) loss)) (sym (scenarios-by_place c (λ k t. total (cash_terms c d a k t))))
+pub reached-places : (c : CaseView) (a : Plan) (loss : ℤ) → reached_before c a loss (scenario_count c) ≡ (reached_test c a loss).holds
+reached-places c a loss = ap (list_any (λ terms. int_eq (neg_ℤ (total terms)) loss)) (sym (scenarios-by_place c (cash_terms c a)))
 
 -- ---- places that pass
 
@@ -60,16 +63,16 @@ abbrev pub stays : Test → Bool
 stays x = not (any_leaves x.numbers)
 
 -- where no place stops the check, no number leaves
-passed-stay : (condition first : ℕ) (xs : List Test) → verdict_of (places_of condition first xs) ≡ Passed → list_all stays xs ≡ true
+passed-stay : (condition : Condition) (first : ℕ) (xs : List Test) → verdict_of (places_of condition first xs) ≡ Passed → list_all stays xs ≡ true
 unfolding places_of verdict_of
 passed-stay condition first [] e = refl
 passed-stay condition first (x ∷ xs) e =
     let here =
-    verdict-first (any_leaves x.numbers) x.holds (Wide condition first) (Failed condition first) (verdict_of (places_of condition (suc first) xs)) e (λ clash. cc) (λ clash. cc) in
+    verdict-first (any_leaves x.numbers) x.holds (Wide (number_of condition) first) (Failed (number_of condition) first) (verdict_of (places_of condition (suc first) xs)) e (λ clash. cc) (λ clash. cc) in
     ap (λ b. not b && list_all stays xs) here.0 ∙ passed-stay condition (suc first) xs here.2
 
 -- Where each loss is at most the calendar's, no number of any of them leaves.
-pub covered-stay : (c : CaseView) (d : ℤ) (a : Amounts) (loss : ℤ) → verdict_of (places_of 7 1 (by_scenario_and_day c (loss_test c d a loss))) ≡ Passed → LossesStay c d a loss
-covered-stay c d a loss e k t scenario day =
-    not-true (any_leaves (loss_test c d a loss k t).numbers)
-    (all-by_index (length c.scenarios) (suc c.last) (loss_test c d a loss) stays (passed-stay 7 1 (by_scenario_and_day c (loss_test c d a loss)) e) k t scenario (omega (arith, day)))
+pub covered-stay : (c : CaseView) (a : Plan) (loss : ℤ) → verdict_of (places_of Losses 1 (by_scenario_and_day c (loss_test c a loss))) ≡ Passed → LossesStay c a loss
+covered-stay c a loss e k t scenario day =
+    not-true (any_leaves (loss_test c a loss k t).numbers)
+    (all-by_index (length c.scenarios) (suc c.last) (loss_test c a loss) stays (passed-stay Losses 1 (by_scenario_and_day c (loss_test c a loss)) e) k t scenario (omega (arith, day)))

@@ -10,7 +10,7 @@ use Rattle.core_model.specs.declared.cert.Weights.{Weights}
 use Rattle.core_model.specs.declared.cert.Cert.{Cert}
 use Rattle.core_model.specs.declared.cert.Cert.TheVariants.{Closes, Cannot}
 use Rattle.core_model.specs.Check.{places_of, verdict_of, verdict, IsValid, Passed, Failed, Wide}
-use Rattle.core_model.proofs.WorkedCases.{numbers, falling, crossing}
+use Rattle.core_model.proofs.WorkedCases.{numbers, tier_of, instrument_of, falling, crossing, expiring, deep}
 
 -- the certificate of a calendar over a denominator, its loss and weights
 abbrev closing : ℤ → List ℤ → ℤ → Weights → Cert
@@ -50,7 +50,7 @@ amount-below = refl
 
 -- the same case where no closing is allowed before day 2
 abbrev delayed : CaseView
-delayed = record crossing { instruments = record { name = codes "IND"; kind = Security; mult = pos 1; delay = 2; lag = 0 } ∷ [] }
+delayed = record crossing { instruments = record (instrument_of Security 0 0) { delay = 2 } ∷ [] }
 
 closed-too_early : verdict delayed crossing_cert ≡ Failed 3 1
 unfolding sum_below total partial_sums below days_to each has least_below working_dates open_days open_day_before places_of verdict_of
@@ -63,7 +63,7 @@ not-in_full = refl
 
 -- the same case with no limit left on day 2
 abbrev limited : CaseView
-limited = record crossing { limits = numbers (1 ∷ 0 ∷ []) ∷ [] }
+limited = record crossing { depth = (tier_of 0 (1 ∷ 0 ∷ []) ∷ []) ∷ [] }
 
 above-limit : verdict limited crossing_cert ≡ Failed 5 2
 unfolding sum_below total partial_sums below days_to each has least_below working_dates open_days open_day_before places_of verdict_of
@@ -147,7 +147,7 @@ abbrev refusing_weights : Weights
 refusing_weights = record { den = pos 1; scenario = numbers (0 ∷ 0 ∷ 0 ∷ 0 ∷ 0 ∷ 0 ∷ 0 ∷ 0 ∷ []); limit = numbers (1 ∷ 1 ∷ []); pool = []; full = numbers (1 ∷ []) }
 
 abbrev stuck : CaseView
-stuck = record crossing { limits = numbers (0 ∷ 0 ∷ []) ∷ [] }
+stuck = record crossing { depth = (tier_of 0 (0 ∷ 0 ∷ []) ∷ []) ∷ [] }
 
 stuck-passes : verdict stuck (Cannot refusing_weights) ≡ Passed
 unfolding sum_below total partial_sums below days_to each has least_below working_dates open_days open_day_before places_of verdict_of
@@ -167,7 +167,7 @@ unfolding sum_below total partial_sums below days_to each has least_below workin
 stuck-undercharged = refl
 
 -- a limit of 1 on day 1 takes the bound to 0, which does not refuse
-limit-left : verdict (record crossing { limits = numbers (1 ∷ 0 ∷ []) ∷ [] }) (Cannot refusing_weights) ≡ Failed 12 1
+limit-left : verdict limited (Cannot refusing_weights) ≡ Failed 12 1
 unfolding sum_below total partial_sums below days_to each has least_below working_dates open_days open_day_before places_of verdict_of
 limit-left = refl
 
@@ -180,3 +180,37 @@ pool-refuses = refl
 pool-left : verdict (pooled_case (pos 1)) (Cannot (record refusing_weights { limit = numbers (0 ∷ 0 ∷ []); pool = numbers (1 ∷ 1 ∷ []); full = numbers (2 ∷ []) })) ≡ Failed 12 1
 unfolding sum_below total partial_sums below days_to each has least_below working_dates open_days open_day_before places_of verdict_of
 pool-left = refl
+
+-- ten of a future on its expiry, above the limit of nine, which does not count there
+abbrev expiring_weights : Weights
+expiring_weights = record { den = pos 1; scenario = numbers (0 ∷ 1 ∷ 0 ∷ []); limit = numbers (0 ∷ []); pool = []; full = numbers (10 ∷ []) }
+
+expiry-passes : verdict expiring (closing (pos 1) (numbers (10 ∷ [])) (pos 100) expiring_weights) ≡ Passed
+unfolding sum_below total partial_sums below days_to each has least_below working_dates open_days open_day_before places_of verdict_of
+expiry-passes = refl
+
+-- a limit's weight charges nothing there, and is taken off the bound
+expiry-weighted : verdict expiring (closing (pos 1) (numbers (10 ∷ [])) (pos 100) (record expiring_weights { limit = numbers (1 ∷ []) })) ≡ Failed 12 1
+unfolding sum_below total partial_sums below days_to each has least_below working_dates open_days open_day_before places_of verdict_of
+expiry-weighted = refl
+
+expiry-undercharged : verdict expiring (closing (pos 1) (numbers (10 ∷ [])) (pos 100) (record expiring_weights { limit = numbers (1 ∷ []); full = numbers (11 ∷ []) })) ≡ Failed 11 1
+unfolding sum_below total partial_sums below days_to each has least_below working_dates open_days open_day_before places_of verdict_of
+expiry-undercharged = refl
+
+-- six of a future in its first tier and four in the second at three each lose 112, of which the first tier's limit saves 18
+abbrev deep_weights : Weights
+deep_weights = record { den = pos 1; scenario = numbers (0 ∷ 1 ∷ 0 ∷ []); limit = numbers (3 ∷ 0 ∷ []); pool = []; full = numbers (13 ∷ []) }
+
+deep-passes : verdict deep (closing (pos 1) (numbers (6 ∷ 4 ∷ [])) (pos 112) deep_weights) ≡ Passed
+unfolding sum_below total partial_sums below days_to each has least_below working_dates open_days open_day_before places_of verdict_of
+deep-passes = refl
+
+-- one more in the first tier, and the limit's weight under the next
+above-tier : verdict deep (closing (pos 1) (numbers (7 ∷ 3 ∷ [])) (pos 109) deep_weights) ≡ Failed 5 1
+unfolding sum_below total partial_sums below days_to each has least_below working_dates open_days open_day_before places_of verdict_of
+above-tier = refl
+
+weight-under_next : verdict deep (closing (pos 1) (numbers (6 ∷ 4 ∷ [])) (pos 112) (record deep_weights { limit = numbers (0 ∷ 3 ∷ []) })) ≡ Failed 11 1
+unfolding sum_below total partial_sums below days_to each has least_below working_dates open_days open_day_before places_of verdict_of
+weight-under_next = refl

@@ -10,50 +10,14 @@ use Rattle.core_sums.proofs.Grids.{sum_grid-cong, sum_grid-le, sum_grid-plus, su
 use Rattle.core_book.specs.View.{CaseView, line, member, pool, limit, no_member}
 use Rattle.core_book.specs.Kept.{IsCase}
 use Rattle.core_model.specs.declared.cert.Weights.{Weights}
-use Rattle.core_model.specs.Closing.{Amounts, line_count, IsAdmissible, closed_of, pooled, fixed, cash_of, loss_of, CannotClose}
-use Rattle.core_model.specs.Bounds.{limit_weight, pool_weight, pool_charge, full_weight, scenario_weight, AreWeights, AreRefusing, sum_losses, sum_limits, sum_pools, bound}
+use Rattle.core_model.specs.Closing.{Plan, line_count, IsAdmissible, closed_of, pooled, fixed, cash_of, loss_of, CannotClose}
+use Rattle.core_model.specs.Bounds.{pool_charge, AreWeights, AreRefusing, sum_losses, sum_limits, sum_pools, bound}
 use Rattle.core_flows.specs.Laws.{paid_units}
-use Rattle.core_flows.proofs.CashLaw.{cash_by_units}
+use Rattle.core_check.proofs.Units.{cash_by_units}
 use Rattle.core_check.proofs.Duality.{weighted_paid, weighted_paid-le}
-use Rattle.core_check.proofs.Charging.{day_charge, charges-split, charges-by_instrument, limit-le, full_charge-le, grouped-factor, reordered}
-
--- the charges of the pools, by day and pool
-pool-regrouped : (c : CaseView) (w : Weights) (a : Amounts) → IsCase c
-    → sum_grid c.horizon (length c.instruments) (λ j i. pool_charge c w i (suc j) *ℤ closed_of c a i (suc j))
-    ≡ sum_grid c.horizon (length c.pools) (λ j p. pool_weight c w p (suc j) *ℤ pooled c a p (suc j))
-pool-regrouped c w a sound =
-    sum_below-cong c.horizon (λ j. sum_below (length c.instruments) (λ i. pool_charge c w i (suc j) *ℤ closed_of c a i (suc j)))
-    (λ j. sum_below (length c.pools) (λ p. pool_weight c w p (suc j) *ℤ pooled c a p (suc j)))
-    (λ j first.
-    sum_below-cong (length c.instruments) (λ i. pool_charge c w i (suc j) *ℤ closed_of c a i (suc j)) (λ i. closed_of c a i (suc j) *ℤ pool_charge c w i (suc j))
-    (λ i second. *ℤ_comm (pool_charge c w i (suc j)) (closed_of c a i (suc j)))
-    ∙ sym (grouped-factor (length c.members) (length c.instruments) (λ m. (member c m).instrument)
-    (λ m. pool_weight c w (member c m).pool (suc j) *ℤ (member c m).weight) (λ i. closed_of c a i (suc j))
-    (λ m second. (sound.members.0 m no_member second).known))
-    ∙ sum_below-cong (length c.members)
-    (λ m. closed_of c a (member c m).instrument (suc j) *ℤ (pool_weight c w (member c m).pool (suc j) *ℤ (member c m).weight))
-    (λ m. pool_weight c w (member c m).pool (suc j) *ℤ ((member c m).weight *ℤ closed_of c a (member c m).instrument (suc j)))
-    (λ m second. *ℤ-middle (closed_of c a (member c m).instrument (suc j)) (pool_weight c w (member c m).pool (suc j)) (member c m).weight
-    ∙ ap (λ z. pool_weight c w (member c m).pool (suc j) *ℤ z) (*ℤ_comm (closed_of c a (member c m).instrument (suc j)) (member c m).weight))
-    ∙ grouped-factor (length c.members) (length c.pools) (λ m. (member c m).pool)
-    (λ m. (member c m).weight *ℤ closed_of c a (member c m).instrument (suc j)) (λ p. pool_weight c w p (suc j))
-    (λ m second. (sound.members.0 m no_member second).pool))
-
--- the charges of the pools are at most what the caps cost
-pool-le : (c : CaseView) (d : ℤ) (a : Amounts) (w : Weights) (losses : ℤ) → IsAdmissible c d a → AreWeights c w losses
-    → sum_grid c.horizon (length c.pools) (λ j p. pool_weight c w p (suc j) *ℤ pooled c a p (suc j)) ≤ℤ (d *ℤ sum_pools c (λ p u. (pool c p).cap *ℤ pool_weight c w p u))
-pool-le c d a w losses admissible weights =
-    let less : sum_grid c.horizon (length c.pools) (λ j p. pool_weight c w p (suc j) *ℤ pooled c a p (suc j))
-    ≤ℤ sum_grid c.horizon (length c.pools) (λ j p. pool_weight c w p (suc j) *ℤ ((pool c p).cap *ℤ d)) =
-    sum_grid-le c.horizon (length c.pools) (λ j p. pool_weight c w p (suc j) *ℤ pooled c a p (suc j)) (λ j p. pool_weight c w p (suc j) *ℤ ((pool c p).cap *ℤ d))
-    (λ j p first second. times-le (pool_weight c w p (suc j)) (pooled c a p (suc j)) ((pool c p).cap *ℤ d)
-    (weights.pools p (suc j) second (omega arith, omega (arith, first))) (admissible.pools p (suc j) second (omega arith, omega (arith, first)))) in
-    let out : sum_grid c.horizon (length c.pools) (λ j p. pool_weight c w p (suc j) *ℤ ((pool c p).cap *ℤ d)) ≡ d *ℤ sum_pools c (λ p u. (pool c p).cap *ℤ pool_weight c w p u) =
-    sum_grid-cong c.horizon (length c.pools) (λ j p. pool_weight c w p (suc j) *ℤ ((pool c p).cap *ℤ d)) (λ j p. d *ℤ ((pool c p).cap *ℤ pool_weight c w p (suc j)))
-    (λ j p first second. reordered (pool_weight c w p (suc j)) (pool c p).cap d)
-    ∙ sum_grid-scale c.horizon (length c.pools) d (λ j p. (pool c p).cap *ℤ pool_weight c w p (suc j))
-    ∙ ap (λ z. d *ℤ z) (sum_below-swap c.horizon (length c.pools) (λ j p. (pool c p).cap *ℤ pool_weight c w p (suc j))) in
-    omega (arith, ints, less, out)
+use Rattle.core_check.proofs.Charging.{charges-split, charges-by_instrument, limit-le, full_charge-le}
+use Rattle.core_check.proofs.Pools.{pool-regrouped, pool-le}
+use Rattle.core_model.specs.Layout.{full_weight, limit_weight, pool_weight, scenario_weight}
 
 -- one weighted loss, and what it is made of
 loss-term : (y f p z d : ℤ) → z ≡ (d *ℤ f) +ℤ p → (y *ℤ neg_ℤ z) +ℤ ((d *ℤ (y *ℤ f)) +ℤ (y *ℤ p)) ≡ pos 0
@@ -64,27 +28,27 @@ loss-term y f p z d e =
     omega (arith, ints, minus, parts, moved)
 
 -- the weighted losses, fixed cash and payments make nothing together
-losses-split : (c : CaseView) (d : ℤ) (a : Amounts) (w : Weights) → IsCase c → IsAdmissible c d a
-    → sum_losses c (λ k t. scenario_weight c w k t *ℤ loss_of c d a k t)
-    +ℤ ((d *ℤ sum_losses c (λ k t. scenario_weight c w k t *ℤ fixed c t)) +ℤ weighted_paid c w a) ≡ pos 0
-losses-split c d a w sound admissible =
-    let scaled : sum_grid (length c.scenarios) (suc c.last) (λ k t. d *ℤ (scenario_weight c w k t *ℤ fixed c t)) ≡ d *ℤ sum_losses c (λ k t. scenario_weight c w k t *ℤ fixed c t) =
-    sum_grid-scale (length c.scenarios) (suc c.last) d (λ k t. scenario_weight c w k t *ℤ fixed c t) in
-    let inner : sum_grid (length c.scenarios) (suc c.last) (λ k t. (d *ℤ (scenario_weight c w k t *ℤ fixed c t)) +ℤ (scenario_weight c w k t *ℤ paid_units c a k t))
-    ≡ sum_grid (length c.scenarios) (suc c.last) (λ k t. d *ℤ (scenario_weight c w k t *ℤ fixed c t)) +ℤ weighted_paid c w a =
-    sum_grid-plus (length c.scenarios) (suc c.last) (λ k t. d *ℤ (scenario_weight c w k t *ℤ fixed c t)) (λ k t. scenario_weight c w k t *ℤ paid_units c a k t) in
+losses-split : (c : CaseView) (a : Plan) (w : Weights) → IsCase c → IsAdmissible c a
+    → sum_losses c (λ k t. scenario_weight c w k t *ℤ loss_of c a k t)
+    +ℤ ((a.den *ℤ sum_losses c (λ k t. scenario_weight c w k t *ℤ fixed c t)) +ℤ weighted_paid c w a) ≡ pos 0
+losses-split c a w sound admissible =
+    let scaled : sum_grid (length c.scenarios) (suc c.last) (λ k t. a.den *ℤ (scenario_weight c w k t *ℤ fixed c t)) ≡ a.den *ℤ sum_losses c (λ k t. scenario_weight c w k t *ℤ fixed c t) =
+    sum_grid-scale (length c.scenarios) (suc c.last) a.den (λ k t. scenario_weight c w k t *ℤ fixed c t) in
+    let inner : sum_grid (length c.scenarios) (suc c.last) (λ k t. (a.den *ℤ (scenario_weight c w k t *ℤ fixed c t)) +ℤ (scenario_weight c w k t *ℤ paid_units c a k t))
+    ≡ sum_grid (length c.scenarios) (suc c.last) (λ k t. a.den *ℤ (scenario_weight c w k t *ℤ fixed c t)) +ℤ weighted_paid c w a =
+    sum_grid-plus (length c.scenarios) (suc c.last) (λ k t. a.den *ℤ (scenario_weight c w k t *ℤ fixed c t)) (λ k t. scenario_weight c w k t *ℤ paid_units c a k t) in
     let outer : sum_grid (length c.scenarios) (suc c.last)
-    (λ k t. (scenario_weight c w k t *ℤ loss_of c d a k t) +ℤ ((d *ℤ (scenario_weight c w k t *ℤ fixed c t)) +ℤ (scenario_weight c w k t *ℤ paid_units c a k t)))
-    ≡ sum_losses c (λ k t. scenario_weight c w k t *ℤ loss_of c d a k t)
-    +ℤ sum_grid (length c.scenarios) (suc c.last) (λ k t. (d *ℤ (scenario_weight c w k t *ℤ fixed c t)) +ℤ (scenario_weight c w k t *ℤ paid_units c a k t)) =
-    sum_grid-plus (length c.scenarios) (suc c.last) (λ k t. scenario_weight c w k t *ℤ loss_of c d a k t)
-    (λ k t. (d *ℤ (scenario_weight c w k t *ℤ fixed c t)) +ℤ (scenario_weight c w k t *ℤ paid_units c a k t)) in
+    (λ k t. (scenario_weight c w k t *ℤ loss_of c a k t) +ℤ ((a.den *ℤ (scenario_weight c w k t *ℤ fixed c t)) +ℤ (scenario_weight c w k t *ℤ paid_units c a k t)))
+    ≡ sum_losses c (λ k t. scenario_weight c w k t *ℤ loss_of c a k t)
+    +ℤ sum_grid (length c.scenarios) (suc c.last) (λ k t. (a.den *ℤ (scenario_weight c w k t *ℤ fixed c t)) +ℤ (scenario_weight c w k t *ℤ paid_units c a k t)) =
+    sum_grid-plus (length c.scenarios) (suc c.last) (λ k t. scenario_weight c w k t *ℤ loss_of c a k t)
+    (λ k t. (a.den *ℤ (scenario_weight c w k t *ℤ fixed c t)) +ℤ (scenario_weight c w k t *ℤ paid_units c a k t)) in
     let nothing : sum_grid (length c.scenarios) (suc c.last)
-    (λ k t. (scenario_weight c w k t *ℤ loss_of c d a k t) +ℤ ((d *ℤ (scenario_weight c w k t *ℤ fixed c t)) +ℤ (scenario_weight c w k t *ℤ paid_units c a k t))) ≡ pos 0 =
+    (λ k t. (scenario_weight c w k t *ℤ loss_of c a k t) +ℤ ((a.den *ℤ (scenario_weight c w k t *ℤ fixed c t)) +ℤ (scenario_weight c w k t *ℤ paid_units c a k t))) ≡ pos 0 =
     sum_grid-cong (length c.scenarios) (suc c.last)
-    (λ k t. (scenario_weight c w k t *ℤ loss_of c d a k t) +ℤ ((d *ℤ (scenario_weight c w k t *ℤ fixed c t)) +ℤ (scenario_weight c w k t *ℤ paid_units c a k t))) (λ k t. pos 0)
-    (λ k t first second. loss-term (scenario_weight c w k t) (fixed c t) (paid_units c a k t) (cash_of c d a k t) d
-    (cash_by_units c d a k t sound admissible first (omega (arith, second))))
+    (λ k t. (scenario_weight c w k t *ℤ loss_of c a k t) +ℤ ((a.den *ℤ (scenario_weight c w k t *ℤ fixed c t)) +ℤ (scenario_weight c w k t *ℤ paid_units c a k t))) (λ k t. pos 0)
+    (λ k t first second. loss-term (scenario_weight c w k t) (fixed c t) (paid_units c a k t) (cash_of c a k t) a.den
+    (cash_by_units c a k t sound admissible.allowed admissible.full first (omega (arith, second))))
     ∙ sum_grid-zero (length c.scenarios) (suc c.last) in
     omega (arith, ints, scaled, inner, outer, nothing)
 
@@ -101,41 +65,34 @@ bound-times f x l p d =
     omega (arith, ints, one, two, three, nf, nl, np, px)
 
 -- The bound of weights is at most the weighted losses of every admissible calendar.
-pub weak_duality : (c : CaseView) (d : ℤ) (a : Amounts) (w : Weights) (losses : ℤ) → IsCase c → IsAdmissible c d a → AreWeights c w losses
-    → (bound c w *ℤ d) ≤ℤ sum_losses c (λ k t. scenario_weight c w k t *ℤ loss_of c d a k t)
-weak_duality c d a w losses sound admissible weights =
+pub weak_duality : (c : CaseView) (a : Plan) (w : Weights) (losses : ℤ) → IsCase c → IsAdmissible c a → AreWeights c w losses
+    → (bound c w *ℤ a.den) ≤ℤ sum_losses c (λ k t. scenario_weight c w k t *ℤ loss_of c a k t)
+weak_duality c a w losses sound admissible weights =
     let f : ℤ = sum_losses c (λ k t. scenario_weight c w k t *ℤ fixed c t) in
     let x : ℤ = sum_below (line_count c) (λ l. full_weight w l *ℤ (line c l).amount) in
-    let l : ℤ = sum_limits c (λ i u. limit c i u *ℤ limit_weight c w i u) in
+    let l : ℤ = sum_limits c (λ i u j. limit c i u j *ℤ limit_weight c w i u j) in
     let p : ℤ = sum_pools c (λ p u. (pool c p).cap *ℤ pool_weight c w p u) in
-    let paid = weighted_paid-le c d a w losses admissible weights in
+    let paid = weighted_paid-le c a w losses admissible weights in
     let split = charges-split c w a in
     let by_instrument = charges-by_instrument c w a sound in
-    let two : sum_grid c.horizon (length c.instruments) (λ j i. day_charge c w i j *ℤ closed_of c a i (suc j))
-    ≡ sum_grid c.horizon (length c.instruments) (λ j i. limit_weight c w i (suc j) *ℤ closed_of c a i (suc j))
-    +ℤ sum_grid c.horizon (length c.instruments) (λ j i. pool_charge c w i (suc j) *ℤ closed_of c a i (suc j)) =
-    sum_grid-cong c.horizon (length c.instruments) (λ j i. day_charge c w i j *ℤ closed_of c a i (suc j))
-    (λ j i. (limit_weight c w i (suc j) *ℤ closed_of c a i (suc j)) +ℤ (pool_charge c w i (suc j) *ℤ closed_of c a i (suc j)))
-    (λ j i first second. *ℤ-distr_right (limit_weight c w i (suc j)) (pool_charge c w i (suc j)) (closed_of c a i (suc j)))
-    ∙ sum_grid-plus c.horizon (length c.instruments) (λ j i. limit_weight c w i (suc j) *ℤ closed_of c a i (suc j)) (λ j i. pool_charge c w i (suc j) *ℤ closed_of c a i (suc j)) in
-    let limits = limit-le c d a w losses admissible weights in
+    let limits = limit-le c a w losses sound admissible weights in
     let pools_are = pool-regrouped c w a sound in
-    let pools = pool-le c d a w losses admissible weights in
-    let full = full_charge-le c d a w losses admissible weights in
-    let losses_are = losses-split c d a w sound admissible in
-    let times = bound-times f x l p d in
-    omega (arith, ints, paid, split, by_instrument, two, limits, pools_are, pools, full, losses_are, times)
+    let pools = pool-le c a w losses admissible weights in
+    let full = full_charge-le c a w losses admissible weights in
+    let losses_are = losses-split c a w sound admissible in
+    let times = bound-times f x l p a.den in
+    omega (arith, ints, paid, split, by_instrument, limits, pools_are, pools, full, losses_are, times)
 
 -- Weights that refuse show that no calendar is admissible.
 pub refusing_shows : (c : CaseView) (w : Weights) → IsCase c → AreRefusing c w → CannotClose c
-refusing_shows c w sound refusing d a admissible =
-    let less : (bound c w *ℤ d) ≤ℤ sum_losses c (λ k t. scenario_weight c w k t *ℤ loss_of c d a k t) = weak_duality c d a w (pos 0) sound admissible refusing.weights in
-    let nothing : sum_losses c (λ k t. scenario_weight c w k t *ℤ loss_of c d a k t) ≡ pos 0 =
-    sum_grid-cong (length c.scenarios) (suc c.last) (λ k t. scenario_weight c w k t *ℤ loss_of c d a k t) (λ k t. pos 0)
-    (λ k t first second. ap (λ z. z *ℤ loss_of c d a k t) (refusing.none k t first (omega (arith, second))) ∙ zero-*ℤ (loss_of c d a k t))
+refusing_shows c w sound refusing a admissible =
+    let less : (bound c w *ℤ a.den) ≤ℤ sum_losses c (λ k t. scenario_weight c w k t *ℤ loss_of c a k t) = weak_duality c a w (pos 0) sound admissible refusing.weights in
+    let nothing : sum_losses c (λ k t. scenario_weight c w k t *ℤ loss_of c a k t) ≡ pos 0 =
+    sum_grid-cong (length c.scenarios) (suc c.last) (λ k t. scenario_weight c w k t *ℤ loss_of c a k t) (λ k t. pos 0)
+    (λ k t first second. ap (λ z. z *ℤ loss_of c a k t) (refusing.none k t first (omega (arith, second))) ∙ zero-*ℤ (loss_of c a k t))
     ∙ sum_grid-zero (length c.scenarios) (suc c.last) in
-    let one : pos 1 ≤ℤ d = admissible.calendar.0 in
+    let one : pos 1 ≤ℤ a.den = admissible.calendar.0 in
     let above : pos 0 <ℤ bound c w = refusing.positive in
-    let grows : (bound c w *ℤ pos 1) ≤ℤ (bound c w *ℤ d) = times-le (bound c w) (pos 1) d (omega (arith, ints, above)) one in
+    let grows : (bound c w *ℤ pos 1) ≤ℤ (bound c w *ℤ a.den) = times-le (bound c w) (pos 1) a.den (omega (arith, ints, above)) one in
     let same : bound c w *ℤ pos 1 ≡ bound c w = *ℤ-pos_one (bound c w) in
     absurd (omega (arith, ints, less, nothing, above, grows, same))

@@ -6,12 +6,11 @@ use Rattle.core_sums.specs.Places.{at, below, each}
 use Rattle.core_sums.proofs.Lists.{length-below}
 use Rattle.core_book.specs.View.{CaseView}
 use Rattle.core_book.specs.Kept.{IsCase}
+use Rattle.core_book.proofs.Depth.{few-depth}
 use Rattle.core_model.specs.declared.cert.Weights.{Weights}
-use Rattle.core_model.specs.Bounds.{scenario_weight}
 use Rattle.core_model.specs.Fits.{WeightsFit}
-use Rattle.core_model.specs.Check.{Test, Place, plain, places_of, scenario_sign, limit_sign, pool_sign, full_sign, weight_tests, scenario_terms, by_line, by_instrument_and_day, by_pool_and_day, by_scenario_and_day}
+use Rattle.core_model.specs.Check.{Test, Place, plain, places_of, scenario_sign, limit_sign, pool_sign, full_sign, weight_tests, scenario_terms, by_line, by_limit, by_pool_and_day, by_scenario_and_day}
 use Rattle.core_model.proofs.FewLines.{lines-few}
-use Rattle.core_check.specs.Cells.{row_of, day_of, scenario_of, house_day_of}
 use Rattle.core_check.specs.declared.fault.CheckFault.{CheckFault}
 use Rattle.core_check.specs.Answers.{answer}
 use Rattle.core_wide.specs.Steps.{summed}
@@ -19,7 +18,10 @@ use Rattle.core_sums.proofs.Joined.{each-single, map-cong}
 use Rattle.core_wide.proofs.Adding.{same-sum}
 use Rattle.core_wide.proofs.Stepping.{sum_to}
 use Rattle.core_check.proofs.Order.{places-append, answer-on, answer-ends}
-use Rattle.core_check.proofs.Tables.{limit-at, pool-at, scenario-at, instruments-by_place, pools-by_place, scenarios-by_place}
+use Rattle.core_model.proofs.Places.{limit-at, pool-at, scenario-at}
+use Rattle.core_check.proofs.Tables.{limits-by_place, pools-by_place, scenarios-by_place}
+use Rattle.core_model.specs.Layout.{scenario_weight, row_at_place, day_at_place, tier_at_place, pool_at_place, pool_day_at_place, scenario_at_place, house_day_at_place, limit_count, pool_count, scenario_count}
+use Rattle.core_model.specs.declared.condition.Condition.TheVariants.{WeightSigns}
 
 -- the tests that some weights are at least 0
 abbrev pub not_negative : List ℤ → List Test
@@ -32,15 +34,15 @@ scenarios-not_negative : (c : CaseView) (w : Weights) → WeightsFit c w → by_
 scenarios-not_negative c w fits =
     let test = λ (p : ℕ). plain (int_le (pos 0) (at w.scenario p)) in
     scenarios-by_place c (scenario_sign c w)
-    ∙ map-cong (length c.scenarios * suc c.last) (λ p. scenario_sign c w (scenario_of c p) (house_day_of c p)) test
+    ∙ map-cong (scenario_count c) (λ p. scenario_sign c w (scenario_at_place c p) (house_day_at_place c p)) test
     (λ p under. ap (λ z. plain (int_le (pos 0) z)) (scenario-at c w p))
     ∙ ap (λ (n : ℕ). map test (below n)) (sym fits.scenario.0)
 
-limits-not_negative : (c : CaseView) (w : Weights) → WeightsFit c w → by_instrument_and_day c (limit_sign c w) ≡ not_negative w.limit
+limits-not_negative : (c : CaseView) (w : Weights) → WeightsFit c w → by_limit c (limit_sign c w) ≡ not_negative w.limit
 limits-not_negative c w fits =
     let test = λ (p : ℕ). plain (int_le (pos 0) (at w.limit p)) in
-    instruments-by_place c (limit_sign c w)
-    ∙ map-cong (length c.instruments * c.horizon) (λ p. limit_sign c w (row_of c p) (day_of c p)) test
+    limits-by_place c (limit_sign c w)
+    ∙ map-cong (limit_count c) (λ p. limit_sign c w (row_at_place c p) (day_at_place c p) (tier_at_place c p)) test
     (λ p under. ap (λ z. plain (int_le (pos 0) z)) (limit-at c w p))
     ∙ ap (λ (n : ℕ). map test (below n)) (sym fits.limit.0)
 
@@ -48,84 +50,84 @@ pools-not_negative : (c : CaseView) (w : Weights) → WeightsFit c w → by_pool
 pools-not_negative c w fits =
     let test = λ (p : ℕ). plain (int_le (pos 0) (at w.pool p)) in
     pools-by_place c (pool_sign c w)
-    ∙ map-cong (length c.pools * c.horizon) (λ p. pool_sign c w (row_of c p) (day_of c p)) test
+    ∙ map-cong (pool_count c) (λ p. pool_sign c w (pool_at_place c p) (pool_day_at_place c p)) test
     (λ p under. ap (λ z. plain (int_le (pos 0) z)) (pool-at c w p))
     ∙ ap (λ (n : ℕ). map test (below n)) (sym fits.pool.0)
 
 -- four lists of tests, numbered through
 numbered : (xs ys zs vs : List Test) (a b d : ℕ) → length xs ≡ a → length ys ≡ b → length zs ≡ d
-    → places_of 9 1 (xs ++ ys ++ zs ++ vs) ≡ places_of 9 1 xs ++ places_of 9 (1 + a) ys ++ places_of 9 (1 + (a + b)) zs ++ places_of 9 (1 + a + b + d) vs
+    → places_of WeightSigns 1 (xs ++ ys ++ zs ++ vs) ≡ places_of WeightSigns 1 xs ++ places_of WeightSigns (1 + a) ys ++ places_of WeightSigns (1 + (a + b)) zs ++ places_of WeightSigns (1 + a + b + d) vs
 numbered xs ys zs vs a b d e f g =
     let two : 1 + length (xs ++ ys) ≡ 1 + (a + b) = omega (arith, length-append xs ys, e, f) in
     let three : 1 + length (xs ++ ys ++ zs) ≡ 1 + a + b + d = omega (arith, length-append xs ys, length-append (xs ++ ys) zs, e, f, g) in
     places-append 9 1 (xs ++ ys ++ zs) vs
-    ∙ ap (λ ps. ps ++ places_of 9 (1 + length (xs ++ ys ++ zs)) vs)
-    (places-append 9 1 (xs ++ ys) zs ∙ ap (λ ps. ps ++ places_of 9 (1 + length (xs ++ ys)) zs) (places-append 9 1 xs ys))
-    ∙ ap (λ (n : ℕ). places_of 9 1 xs ++ places_of 9 (1 + n) ys ++ places_of 9 (1 + length (xs ++ ys)) zs ++ places_of 9 (1 + length (xs ++ ys ++ zs)) vs) e
-    ∙ ap (λ (n : ℕ). places_of 9 1 xs ++ places_of 9 (1 + a) ys ++ places_of 9 n zs ++ places_of 9 (1 + length (xs ++ ys ++ zs)) vs) two
-    ∙ ap (λ (n : ℕ). places_of 9 1 xs ++ places_of 9 (1 + a) ys ++ places_of 9 (1 + (a + b)) zs ++ places_of 9 n vs) three
+    ∙ ap (λ ps. ps ++ places_of WeightSigns (1 + length (xs ++ ys ++ zs)) vs)
+    (places-append 9 1 (xs ++ ys) zs ∙ ap (λ ps. ps ++ places_of WeightSigns (1 + length (xs ++ ys)) zs) (places-append 9 1 xs ys))
+    ∙ ap (λ (n : ℕ). places_of WeightSigns 1 xs ++ places_of WeightSigns (1 + n) ys ++ places_of WeightSigns (1 + length (xs ++ ys)) zs ++ places_of WeightSigns (1 + length (xs ++ ys ++ zs)) vs) e
+    ∙ ap (λ (n : ℕ). places_of WeightSigns 1 xs ++ places_of WeightSigns (1 + a) ys ++ places_of WeightSigns n zs ++ places_of WeightSigns (1 + length (xs ++ ys ++ zs)) vs) two
+    ∙ ap (λ (n : ℕ). places_of WeightSigns 1 xs ++ places_of WeightSigns (1 + a) ys ++ places_of WeightSigns (1 + (a + b)) zs ++ places_of WeightSigns n vs) three
 
 -- the places of the signs: of the weights of scenarios, limits and pools, and of the full weights
 abbrev pub scenario_signs : Weights → List Place
-scenario_signs w = places_of 9 1 (not_negative w.scenario)
+scenario_signs w = places_of WeightSigns 1 (not_negative w.scenario)
 
 abbrev pub limit_signs : Weights → List Place
-limit_signs w = places_of 9 (1 + length w.scenario) (not_negative w.limit)
+limit_signs w = places_of WeightSigns (1 + length w.scenario) (not_negative w.limit)
 
 abbrev pub pool_signs : Weights → List Place
-pool_signs w = places_of 9 (1 + (length w.scenario + length w.limit)) (not_negative w.pool)
+pool_signs w = places_of WeightSigns (1 + (length w.scenario + length w.limit)) (not_negative w.pool)
 
 abbrev pub full_signs : CaseView → Weights → List Place
-full_signs c w = places_of 9 (1 + length w.scenario + length w.limit + length w.pool) (by_line c (full_sign c w))
+full_signs c w = places_of WeightSigns (1 + length w.scenario + length w.limit + length w.pool) (by_line c (full_sign c w))
 
 pub signs-numbered : (c : CaseView) (w : Weights) → WeightsFit c w
-    → places_of 9 1 (weight_tests c w) ≡ scenario_signs w ++ limit_signs w ++ pool_signs w ++ full_signs c w
+    → places_of WeightSigns 1 (weight_tests c w) ≡ scenario_signs w ++ limit_signs w ++ pool_signs w ++ full_signs c w
 signs-numbered c w fits =
     let full = by_line c (full_sign c w) in
-    let limits = by_instrument_and_day c (limit_sign c w) in
+    let limits = by_limit c (limit_sign c w) in
     let pools = by_pool_and_day c (pool_sign c w) in
-    ap (λ xs. places_of 9 1 (xs ++ limits ++ pools ++ full)) (scenarios-not_negative c w fits)
-    ∙ ap (λ ys. places_of 9 1 (not_negative w.scenario ++ ys ++ pools ++ full)) (limits-not_negative c w fits)
-    ∙ ap (λ zs. places_of 9 1 (not_negative w.scenario ++ not_negative w.limit ++ zs ++ full)) (pools-not_negative c w fits)
+    ap (λ xs. places_of WeightSigns 1 (xs ++ limits ++ pools ++ full)) (scenarios-not_negative c w fits)
+    ∙ ap (λ ys. places_of WeightSigns 1 (not_negative w.scenario ++ ys ++ pools ++ full)) (limits-not_negative c w fits)
+    ∙ ap (λ zs. places_of WeightSigns 1 (not_negative w.scenario ++ not_negative w.limit ++ zs ++ full)) (pools-not_negative c w fits)
     ∙ numbered (not_negative w.scenario) (not_negative w.limit) (not_negative w.pool) full (length w.scenario) (length w.limit) (length w.pool)
     (not_negative-count w.scenario) (not_negative-count w.limit) (not_negative-count w.pool)
 
 -- A fault is the answer to all signs where those before it pass; where the first three pass, the last answer.
 pub scenario-fault : (c : CaseView) (w : Weights) (fault : CheckFault) → WeightsFit c w → answer (scenario_signs w) ≡ Err fault
-    → answer (places_of 9 1 (weight_tests c w)) ≡ Err fault
+    → answer (places_of WeightSigns 1 (weight_tests c w)) ≡ Err fault
 scenario-fault c w fault fits here =
     ap answer (signs-numbered c w fits)
     ∙ answer-ends (scenario_signs w ++ limit_signs w ++ pool_signs w) (full_signs c w) fault
     (answer-ends (scenario_signs w ++ limit_signs w) (pool_signs w) fault (answer-ends (scenario_signs w) (limit_signs w) fault here))
 
 pub limit-fault : (c : CaseView) (w : Weights) (fault : CheckFault) → WeightsFit c w → answer (scenario_signs w) ≡ Ok tt → answer (limit_signs w) ≡ Err fault
-    → answer (places_of 9 1 (weight_tests c w)) ≡ Err fault
+    → answer (places_of WeightSigns 1 (weight_tests c w)) ≡ Err fault
 limit-fault c w fault fits first here =
     ap answer (signs-numbered c w fits)
     ∙ answer-ends (scenario_signs w ++ limit_signs w ++ pool_signs w) (full_signs c w) fault
     (answer-ends (scenario_signs w ++ limit_signs w) (pool_signs w) fault (answer-on (scenario_signs w) (limit_signs w) first ∙ here))
 
 pub pool-fault : (c : CaseView) (w : Weights) (fault : CheckFault) → WeightsFit c w → answer (scenario_signs w) ≡ Ok tt → answer (limit_signs w) ≡ Ok tt
-    → answer (pool_signs w) ≡ Err fault → answer (places_of 9 1 (weight_tests c w)) ≡ Err fault
+    → answer (pool_signs w) ≡ Err fault → answer (places_of WeightSigns 1 (weight_tests c w)) ≡ Err fault
 pool-fault c w fault fits first second here =
     ap answer (signs-numbered c w fits)
     ∙ answer-ends (scenario_signs w ++ limit_signs w ++ pool_signs w) (full_signs c w) fault
     (answer-on (scenario_signs w ++ limit_signs w) (pool_signs w) (answer-on (scenario_signs w) (limit_signs w) first ∙ second) ∙ here)
 
 pub full-answer : (c : CaseView) (w : Weights) → WeightsFit c w → answer (scenario_signs w) ≡ Ok tt → answer (limit_signs w) ≡ Ok tt → answer (pool_signs w) ≡ Ok tt
-    → answer (places_of 9 1 (weight_tests c w)) ≡ answer (full_signs c w)
+    → answer (places_of WeightSigns 1 (weight_tests c w)) ≡ answer (full_signs c w)
 full-answer c w fits first second third =
     ap answer (signs-numbered c w fits)
     ∙ answer-on (scenario_signs w ++ limit_signs w ++ pool_signs w) (full_signs c w)
     (answer-on (scenario_signs w ++ limit_signs w) (pool_signs w) (answer-on (scenario_signs w) (limit_signs w) first ∙ second) ∙ third)
 
 -- there are few of them
-pub weights-few : (c : CaseView) (w : Weights) → IsCase c → WeightsFit c w → length w.scenario + length w.limit + length w.pool + length c.lines ≤ 4000
+pub weights-few : (c : CaseView) (w : Weights) → IsCase c → WeightsFit c w → length w.scenario + length w.limit + length w.pool + length c.lines ≤ 6000
 weights-few c w kept fits =
     let lines = lines-few c kept in
     let house_days : suc c.last ≤ 41 = omega (arith, kept.last.1) in
     let scenarios = mul-le-mul kept.scenarios.1 house_days in
-    let limits = mul-le-mul kept.instruments.0 kept.horizon.1 in
+    let limits = mul-le-mul (mul-le-mul kept.instruments.0 kept.horizon.1) (few-depth c kept) in
     let pools = mul-le-mul kept.pools.0 kept.horizon.1 in
     omega (arith, lines, scenarios, limits, pools, fits.scenario.0, fits.limit.0, fits.pool.0)
 
@@ -133,7 +135,7 @@ weights-few c w kept fits =
 scenario_terms-listed : (c : CaseView) (w : Weights) → WeightsFit c w → scenario_terms c w ≡ map (at w.scenario) (below (length w.scenario))
 scenario_terms-listed c w fits =
     scenarios-by_place c (scenario_weight c w)
-    ∙ map-cong (length c.scenarios * suc c.last) (λ p. scenario_weight c w (scenario_of c p) (house_day_of c p)) (at w.scenario) (λ p under. scenario-at c w p)
+    ∙ map-cong (scenario_count c) (λ p. scenario_weight c w (scenario_at_place c p) (house_day_at_place c p)) (at w.scenario) (λ p under. scenario-at c w p)
     ∙ ap (λ (n : ℕ). map (at w.scenario) (below n)) (sym fits.scenario.0)
 
 -- what each adds to their sum

@@ -4,17 +4,17 @@ ghost use Rattle.core_sums.specs.Places.{at};
 ghost use Rattle.core_book.specs.Kept.{IsCase};
 ghost use Rattle.core_book.specs.View.{limit, line, pool};
 ghost use Rattle.core_model.specs.Closing.{fixed, line_count};
+ghost use Rattle.core_model.specs.Layout.{day_at_place, house_day_at_place, pool_at_place, row_at_place, tier_at_place};
 ghost use Rattle.core_model.specs.Fits.{IsKept, WeightsFit};
 ghost use Rattle.core_model.specs.Check.{bound_terms, meets_test, refuses_test};
-ghost use Rattle.core_check.specs.Cells.{day_of, house_day_of, row_of};
 ghost use Rattle.core_wide.specs.Steps.{summed, with_product};
 ghost use Rattle.core_check.specs.Steps.{judged};
 
-use crate::cells::{closing_cell, number, scenario_cell};
+use crate::numbers::number;
 use crate::ratios::is_same_ratio;
 use core_book::Case;
 use core_flows::Flows;
-use core_model::Weights;
+use core_model::{Weights, closing_cell, pool_cell, scenario_cell};
 use core_wide::{add_each, minus_product, plus, plus_product};
 
 /// The sum less the weight at a place times the fixed cash up to its day. A weight of 0 costs only a look.
@@ -30,14 +30,15 @@ fn minus_fixed(
     requires fits { WeightsFit case.now weights.now }
     requires place { place < length weights.now.scenario }
     ensures { result ≡ with_product sum
-        (neg_ℤ (at weights.now.scenario place *ℤ fixed case.now (house_day_of case.now place))) }
+        (neg_ℤ (at weights.now.scenario place
+        *ℤ fixed case.now (house_day_at_place case.now place))) }
 {
     let weight = number(&weights.scenario, place);
     if weight == 0 {
         return plus(sum, 0);
     }
-    let (_, day) = scenario_cell(case, case.scenarios(), place);
-    minus_product(sum, weight, flows.fixed(day))
+    let on = scenario_cell(case, case.scenarios(), place);
+    minus_product(sum, weight, flows.fixed(on.day))
 }
 
 /// The sum and the full weight of a line times its amount.
@@ -60,15 +61,16 @@ fn minus_limit(case: &Case, weights: &Weights, sum: i128, place: usize) -> Optio
     requires fits { WeightsFit case.now weights.now }
     requires place { place < length weights.now.limit }
     ensures { result ≡ with_product sum (neg_ℤ
-        (limit case.now (row_of case.now place) (day_of case.now place)
-        *ℤ at weights.now.limit place)) }
+        (limit case.now (row_at_place case.now place) (day_at_place case.now place)
+        (tier_at_place case.now place) *ℤ at weights.now.limit place)) }
 {
     let weight = number(&weights.limit, place);
     if weight == 0 {
         return plus(sum, 0);
     }
-    let (i, u) = closing_cell(case, case.instruments(), place);
-    minus_product(sum, i128::from(case.limit(i, u)), weight)
+    let cell = closing_cell(case, case.instruments(), place);
+    let limit = case.limit(cell.row, cell.day, cell.tier);
+    minus_product(sum, i128::from(limit), weight)
 }
 
 /// The sum less the weight of a cap times the cap. A weight of 0 costs only a look.
@@ -77,14 +79,14 @@ fn minus_cap(case: &Case, weights: &Weights, sum: i128, place: usize) -> Option<
     requires fits { WeightsFit case.now weights.now }
     requires place { place < length weights.now.pool }
     ensures { result ≡ with_product sum
-        (neg_ℤ ((pool case.now (row_of case.now place)).cap *ℤ at weights.now.pool place)) }
+        (neg_ℤ ((pool case.now (pool_at_place case.now place)).cap *ℤ at weights.now.pool place)) }
 {
     let weight = number(&weights.pool, place);
     if weight == 0 {
         return plus(sum, 0);
     }
-    let (p, _) = closing_cell(case, case.pools(), place);
-    minus_product(sum, i128::from(case.pool(p).cap), weight)
+    let cell = pool_cell(case, case.pools(), place);
+    minus_product(sum, i128::from(case.pool(cell.row).cap), weight)
 }
 
 /// The bound of the weights, as a numerator over their denominator, or None where a number leaves.

@@ -1,10 +1,11 @@
 // The conditions of a certificate, one after the other.
 ghost use Rattle.std.specs.Prelude.{◌≡◌, ◌++◌, ◌∷◌, []};
 ghost use Rattle.core_book.specs.Kept.{IsCase};
-ghost use Rattle.core_model.specs.Bounds.{amounts_of};
-ghost use Rattle.core_model.specs.Check.{by_line_and_day, calendar_places, charge_test, places, places_of, sum_test, weight_tests};
+ghost use Rattle.core_model.specs.Layout.{plan_of};
+ghost use Rattle.core_model.specs.Check.{by_closing, calendar_places, charge_test, places, places_of, sum_test, weight_tests};
 ghost use Rattle.core_model.specs.Fits.{CalendarFits, Fits, IsKept, WeightsFit};
 ghost use Rattle.core_model.specs.declared.cert.Cert.TheVariants.{Cannot, Closes};
+ghost use Rattle.core_model.specs.declared.condition.Condition.TheVariants.{Charges, WeightSigns, WeightSum};
 ghost use Rattle.core_check.specs.Answers.{answer};
 
 use crate::bounds::{meets, refuses};
@@ -16,7 +17,7 @@ use crate::places::judge_place;
 use crate::weights::{check_weight_signs, have_sum};
 use core_book::Case;
 use core_flows::Flows;
-use core_model::{Calendar, Cert, Weights};
+use core_model::{Calendar, Cert, Condition, Weights};
 
 /// The conditions on a calendar and its loss, 2 to 8.
 fn check_calendar(
@@ -30,7 +31,7 @@ fn check_calendar(
     requires fits { CalendarFits case.now calendar.now }
     requires loss { IsKept loss }
     ensures { result ≡ answer (calendar_places
-        case.now calendar.now.den (amounts_of case.now calendar.now) loss) }
+        case.now (plan_of case.now calendar.now) loss) }
 {
     check_signs(case, calendar)?;
     check_allowed(case, calendar)?;
@@ -46,12 +47,12 @@ fn check_weights(case: &Case, flows: &Flows, weights: &Weights, sum: i128) -> Re
     requires flows { flows.now ≡ case.now }
     requires fits { WeightsFit case.now weights.now }
     ensures { result ≡ answer
-        (places_of 9 1 (weight_tests case.now weights.now)
-        ++ places_of 10 1 (sum_test case.now weights.now sum ∷ [])
-        ++ places_of 11 1 (by_line_and_day case.now (charge_test case.now weights.now))) }
+        (places_of WeightSigns 1 (weight_tests case.now weights.now)
+        ++ places_of WeightSum 1 (sum_test case.now weights.now sum ∷ [])
+        ++ places_of Charges 1 (by_closing case.now (charge_test case.now weights.now))) }
 {
     check_weight_signs(case, weights)?;
-    judge_place(10, 1, have_sum(case, weights, sum))?;
+    judge_place(Condition::WeightSum, 1, have_sum(case, weights, sum))?;
     check_charges(case, flows, weights)
 }
 
@@ -72,19 +73,19 @@ fn check_closes(
 {
     if calendar.den < 1 {
         return Err(CheckFault::No {
-            condition: 1,
+            condition: Condition::Denominators.number(),
             place: 1,
         });
     }
     if weights.den < 1 {
         return Err(CheckFault::No {
-            condition: 1,
+            condition: Condition::Denominators.number(),
             place: 2,
         });
     }
     check_calendar(case, flows, calendar, loss)?;
     check_weights(case, flows, weights, weights.den)?;
-    judge_place(12, 1, meets(case, flows, weights, calendar.den, loss))
+    judge_place(Condition::Bound, 1, meets(case, flows, weights, calendar.den, loss))
 }
 
 /// The conditions of weights that refuse every calendar.
@@ -96,12 +97,12 @@ fn check_cannot(case: &Case, flows: &Flows, weights: &Weights) -> Result<(), Che
 {
     if weights.den < 1 {
         return Err(CheckFault::No {
-            condition: 1,
+            condition: Condition::Denominators.number(),
             place: 2,
         });
     }
     check_weights(case, flows, weights, 0)?;
-    judge_place(12, 1, refuses(case, flows, weights))
+    judge_place(Condition::Bound, 1, refuses(case, flows, weights))
 }
 
 /// The conditions of a certificate.

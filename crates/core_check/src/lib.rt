@@ -7,11 +7,11 @@
 
 mod bounds;
 mod cash;
-mod cells;
 mod charges;
 mod closings;
 mod conditions;
 mod fault;
+mod numbers;
 mod places;
 mod ratios;
 mod weights;
@@ -39,8 +39,9 @@ use std::alloc::Global;
 /// numbers is too large and `No` where it does not hold.
 ///
 /// For a calendar the conditions are: (1) both denominators are at least 1; (2) no amount is below 0, and (3) none is
-/// there on a day that is not allowed; (4) each position is closed in full, and collateral at most in full; (5) each
-/// limit and (6) each pool's cap is kept; (7) no loss of any scenario and day is above the stated one, and (8) one
+/// there on a day and in a tier that are not allowed; (4) each position is closed in full, and collateral at most in
+/// full; (5) each limit and (6) each pool's cap is kept, for which an instrument's closings on its expiry do not count;
+/// (7) no loss of any scenario and day is above the stated one, and (8) one
 /// reaches it. For weights: (9) they have their signs; (10) the scenario weights sum to their denominator, or to 0 where
 /// they refuse; (11) each allowed closing is charged at least the full weight of its line; (12) the bound is the loss,
 /// or above 0 where they refuse.

@@ -3,11 +3,17 @@ ghost use Rattle.std.specs.Prelude.{◌≡◌, ◌+◌, ◌^◌, ◌<◌, ◌≤
 ghost use Rattle.core_check.specs.Answers.{ChecksEach, answer_at};
 
 use crate::fault::CheckFault;
+use core_model::Condition;
 
 /// The answer of a place, by whether it holds, where None says that a number of it leaves 128 bits.
-pub(crate) fn judge_place(condition: u8, place: u32, holds: Option<bool>) -> Result<(), CheckFault>
+pub(crate) fn judge_place(
+    condition: Condition,
+    place: u32,
+    holds: Option<bool>,
+) -> Result<(), CheckFault>
     ensures { result ≡ answer_at condition place holds }
 {
+    let condition = condition.number();
     match holds {
         Some(true) => Ok(()),
         Some(false) => Err(CheckFault::No { condition, place }),
@@ -18,7 +24,7 @@ pub(crate) fn judge_place(condition: u8, place: u32, holds: Option<bool>) -> Res
 /// Goes through so many places of a condition, of which the first has the number `first`, up to the first that does not
 /// hold or of which a number leaves 128 bits. `holds` answers None where one does.
 pub(crate) fn check_each<F: Fn(usize) -> Option<bool>>(
-    condition: u8,
+    condition: Condition,
     first: u32,
     count: usize,
     holds: F,

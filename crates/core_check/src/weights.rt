@@ -5,24 +5,25 @@ ghost use Rattle.core_book.specs.Kept.{IsCase};
 ghost use Rattle.core_model.specs.Closing.{line_count};
 ghost use Rattle.core_model.specs.Fits.{WeightsFit};
 ghost use Rattle.core_model.specs.Check.{full_sign, places_of, plain, sum_test, weight_tests};
+ghost use Rattle.core_model.specs.declared.condition.Condition.TheVariants.{WeightSigns};
 ghost use Rattle.core_check.specs.Answers.{answer};
 ghost use Rattle.core_check.specs.Steps.{judged};
 
-use crate::cells::number;
 use crate::fault::CheckFault;
+use crate::numbers::number;
 use crate::places::check_each;
 use core_book::{Case, Side};
-use core_model::{Numbers, Weights};
+use core_model::{Condition, Numbers, Weights};
 use core_wide::{add_each, plus};
 
 /// Whether each of some weights is at least 0, where the signs before are `before` in number.
 fn check_not_negative(before: u32, weights: &Numbers) -> Result<(), CheckFault>
     requires { 1 + before + length weights.now < 2 ^ 32 }
     ensures { result ≡ answer
-        (places_of 9 (1 + before)
+        (places_of WeightSigns (1 + before)
         (map (λ p. plain (int_le (pos 0) (at weights.now p))) (below (length weights.now)))) }
 {
-    check_each(9, 1 + before, weights.len(), |place| {
+    check_each(Condition::WeightSigns, 1 + before, weights.len(), |place| {
         Some(number(weights, place) >= 0)
     })
 }
@@ -36,7 +37,7 @@ fn has_full_sign(case: &Case, weights: &Weights, l: usize) -> bool
 {
     match case.line(l).side {
         Side::Position => true,
-        Side::Collateral => number(&weights.full, l) <= 0,
+        Side::Collateral => weights.full_of(case, l) <= 0,
     }
 }
 
@@ -44,7 +45,7 @@ fn has_full_sign(case: &Case, weights: &Weights, l: usize) -> bool
 pub(crate) fn check_weight_signs(case: &Case, weights: &Weights) -> Result<(), CheckFault>
     requires kept { IsCase case.now }
     requires fits { WeightsFit case.now weights.now }
-    ensures { result ≡ answer (places_of 9 1 (weight_tests case.now weights.now)) }
+    ensures { result ≡ answer (places_of WeightSigns 1 (weight_tests case.now weights.now)) }
 {
     let scenarios = weights.scenario.len() as u32;
     let limits = weights.limit.len() as u32;
@@ -52,7 +53,7 @@ pub(crate) fn check_weight_signs(case: &Case, weights: &Weights) -> Result<(), C
     check_not_negative(0, &weights.scenario)?;
     check_not_negative(scenarios, &weights.limit)?;
     check_not_negative(scenarios + limits, &weights.pool)?;
-    check_each(9, 1 + scenarios + limits + pools, case.lines(), |l| {
+    check_each(Condition::WeightSigns, 1 + scenarios + limits + pools, case.lines(), |l| {
         Some(has_full_sign(case, weights, l))
     })
 }

@@ -2,14 +2,13 @@ use Rattle.std.proofs.Common.{rules, sym, ◌∙◌, ap, pos, ◌-ℤ◌, neg_�
 use mir.Syntax.{w128}
 use Rattle.std.proofs.lemmas.Int.{to_z-of_z}
 use Rattle.core_sums.specs.Sums.{total}
-use Rattle.core_model.specs.Bounds.{amounts_of}
 use Rattle.core_model.specs.Check.{cash_terms}
-use Rattle.core_check.specs.Cells.{scenario_of, house_day_of}
 use Rattle.core_sums.proofs.Kept.{opposite-fits}
 use Rattle.core_wide.proofs.Adding.{sum-total}
 use Rattle.core_check.proofs.Judging.{sum-stays, sum-leaves}
 use Rattle.core_check.proofs.CashTerms.{loss-most, cash-at}
 use Rattle.core_check.proofs.cash.is_covered.Goals as goal
+use Rattle.core_model.specs.Layout.{house_day_at_place, plan_of, scenario_at_place}
 
 pub returns : goal.returns
 returns c =
@@ -17,11 +16,10 @@ returns c =
     let opposite : FitsSigned w128 (pos 0 -ℤ c.args.loss) = opposite-fits c.args.loss c.requires.loss in
     let cash : FitsSigned w128 c.in_ok-cash.cash = search rules in
     let case = c.args.case.now in
-    let d = c.args.calendar.now.den in
-    let a = amounts_of case c.args.calendar.now in
-    let terms = cash_terms case d a (scenario_of case c.args.place) (house_day_of case c.args.place) in
-    let sum = cash-at case d a c.scenarios.result c.args.place c.scenario_cell-scenario.result.0 c.scenario_cell-scenario.result.1 (Some c.in_ok-cash.cash)
-    c.scenario_cell-scenario.ensures c.in_ok-cash.ensures in
+    let a = plan_of case c.args.calendar.now in
+    let terms = cash_terms case a (scenario_at_place case c.args.place) (house_day_at_place case c.args.place) in
+    let sum = cash-at case a c.scenarios.result c.args.place c.scenario_cell-on.result (Some c.in_ok-cash.cash)
+    c.scenario_cell-on.ensures c.in_ok-cash.ensures in
     simp to_z-of_z
     (ap (λ b. Some b) (loss-most c.in_ok-cash.cash c.args.loss)
     ∙ ap (λ z. Some (int_le (neg_ℤ z) c.args.loss)) (sym (sum-total c.in_ok-cash.cash terms terms sum))
@@ -30,9 +28,8 @@ returns c =
 pub returns-in_err-cash : goal.returns-in_err-cash
 returns-in_err-cash c =
     let case = c.args.case.now in
-    let d = c.args.calendar.now.den in
-    let a = amounts_of case c.args.calendar.now in
-    let terms = cash_terms case d a (scenario_of case c.args.place) (house_day_of case c.args.place) in
-    let none = cash-at case d a c.scenarios.result c.args.place c.scenario_cell-scenario.result.0 c.scenario_cell-scenario.result.1 None
-    c.scenario_cell-scenario.ensures c.in_err-cash.ensures in
+    let a = plan_of case c.args.calendar.now in
+    let terms = cash_terms case a (scenario_at_place case c.args.place) (house_day_at_place case c.args.place) in
+    let none = cash-at case a c.scenarios.result c.args.place c.scenario_cell-on.result None
+    c.scenario_cell-on.ensures c.in_err-cash.ensures in
     c.from_residual.ensures ∙ sum-leaves terms (int_le (neg_ℤ (total terms)) c.args.loss) none

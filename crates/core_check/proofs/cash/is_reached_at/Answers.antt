@@ -2,13 +2,12 @@ use Rattle.std.proofs.Common.{rules, arith, sym, ◌∙◌, ap, ◌<◌, ◌≤�
 use mir.Syntax.{w128}
 use Rattle.std.proofs.lemmas.Int.{to_z-of_z}
 use Rattle.std.specs.Ordering.{int_eq}
-use Rattle.core_model.specs.Bounds.{amounts_of}
 use Rattle.core_model.specs.Check.{cash_terms}
-use Rattle.core_check.specs.Cells.{scenario_of, house_day_of}
 use Rattle.core_sums.proofs.Kept.{opposite-fits}
 use Rattle.core_wide.proofs.Adding.{sum-total, sum-there}
 use Rattle.core_check.proofs.CashTerms.{loss-same, cash-at}
 use Rattle.core_check.proofs.cash.is_reached_at.Goals as goal
+use Rattle.core_model.specs.Layout.{house_day_at_place, plan_of, scenario_at_place}
 
 pub returns-in-Some : goal.returns-in-Some
 returns-in-Some c =
@@ -16,11 +15,10 @@ returns-in-Some c =
     let opposite : FitsSigned w128 (pos 0 -ℤ c.args.loss) = opposite-fits c.args.loss c.requires.loss in
     let cash : FitsSigned w128 c.in-Some.cash = search rules in
     let case = c.args.case.now in
-    let d = c.args.calendar.now.den in
-    let a = amounts_of case c.args.calendar.now in
-    let terms = cash_terms case d a (scenario_of case c.args.place) (house_day_of case c.args.place) in
-    let sum = cash-at case d a c.scenarios.result c.args.place c.scenario_cell-scenario.result.0 c.scenario_cell-scenario.result.1 (Some c.in-Some.cash)
-    c.scenario_cell-scenario.ensures c.in-Some.ensures in
+    let a = plan_of case c.args.calendar.now in
+    let terms = cash_terms case a (scenario_at_place case c.args.place) (house_day_at_place case c.args.place) in
+    let sum = cash-at case a c.scenarios.result c.args.place c.scenario_cell-on.result (Some c.in-Some.cash)
+    c.scenario_cell-on.ensures c.in-Some.ensures in
     simp to_z-of_z
     (loss-same c.in-Some.cash c.args.loss cash opposite
     ∙ ap (λ z. int_eq (neg_ℤ z) c.args.loss) (sym (sum-total c.in-Some.cash terms terms sum)))
@@ -28,12 +26,11 @@ returns-in-Some c =
 pub returns-in-None : goal.returns-in-None
 returns-in-None c =
     let case = c.args.case.now in
-    let d = c.args.calendar.now.den in
-    let a = amounts_of case c.args.calendar.now in
-    let cell = c.scenario_cell-scenario.ensures in
-    let terms = cash_terms case d a (scenario_of case c.args.place) (house_day_of case c.args.place) in
-    let none = cash-at case d a c.scenarios.result c.args.place c.scenario_cell-scenario.result.0 c.scenario_cell-scenario.result.1 None
+    let a = plan_of case c.args.calendar.now in
+    let cell = c.scenario_cell-on.ensures in
+    let terms = cash_terms case a (scenario_at_place case c.args.place) (house_day_at_place case c.args.place) in
+    let none = cash-at case a c.scenarios.result c.args.place c.scenario_cell-on.result None
     cell c.in-None.ensures in
-    let scenario : scenario_of case c.args.place < length case.scenarios = omega (arith, cell.row_is, cell.row_within, c.scenarios.ensures) in
-    let day : house_day_of case c.args.place ≤ case.last = omega (arith, cell.day_is, cell.day_to) in
-    absurd (sum-there terms (c.requires.stays (scenario_of case c.args.place) (house_day_of case c.args.place) scenario day) none)
+    let scenario : scenario_at_place case c.args.place < length case.scenarios = omega (arith, cell.row_is, cell.row_within, c.scenarios.ensures) in
+    let day : house_day_at_place case c.args.place ≤ case.last = omega (arith, cell.day_is, cell.day_to) in
+    absurd (sum-there terms (c.requires.stays (scenario_at_place case c.args.place) (house_day_at_place case c.args.place) scenario day) none)

@@ -4,15 +4,15 @@ use Rattle.std.proofs.lemmas.Int.{to_z-of_z}
 use Rattle.std.proofs.Math.IntN.{zero-*ℤ}
 use Rattle.core_sums.specs.Places.{at}
 use Rattle.core_model.specs.Bounds.{unit}
-use Rattle.core_check.specs.Cells.{scenario_of, house_day_of}
 use Rattle.core_wide.specs.Steps.{with_product}
 use Rattle.core_check.proofs.charges.minus_unit.Goals as goal
+use Rattle.core_model.specs.Layout.{house_day_at_place, scenario_at_place}
 
 pub returns-then-weight-eq0 : goal.returns-then-weight-eq0
 returns-then-weight-eq0 c =
     let sum_fits : FitsSigned w128 c.args.sum = c.ranges.sum in
     let weight_fits : FitsSigned w128 c.number-weight.result = search rules in
     let none : c.number-weight.result ≡ pos 0 = search (rules, c.if-weight-eq0.true) in
-    let one = unit c.args.case.now c.args.l (scenario_of c.args.case.now c.args.place) c.args.u (house_day_of c.args.case.now c.args.place) in
+    let one = unit c.args.case.now c.args.cell.row (scenario_at_place c.args.case.now c.args.place) c.args.cell.day c.args.cell.tier (house_day_at_place c.args.case.now c.args.place) in
     let nothing : neg_ℤ (at c.args.weights.now.scenario c.args.place *ℤ one) ≡ pos 0 = ap (λ z. neg_ℤ (z *ℤ one)) (sym c.number-weight.ensures ∙ none) ∙ ap neg_ℤ (zero-*ℤ one) in
     simp to_z-of_z at (c.plus.ensures.kept (lit≤ tt)) ∙ ap (with_product c.args.sum) (sym nothing)

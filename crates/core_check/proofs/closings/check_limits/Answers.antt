@@ -1,19 +1,21 @@
 use Rattle.std.proofs.Common.{rules, sym, ◌∙◌, ap, ℕ, length, map}
 use Rattle.core_sums.specs.Places.{below}
-use Rattle.core_model.specs.Bounds.{amounts_of}
+use Rattle.core_book.specs.View.{tiers}
+use Rattle.core_model.specs.declared.condition.Condition.TheVariants.{Limits}
+use Rattle.core_model.specs.Layout.{plan_of, row_at_place, day_at_place, tier_at_place}
 use Rattle.core_model.specs.Check.{places_of, limit_test}
 use Rattle.core_check.specs.Answers.{answer}
-use Rattle.core_check.specs.Cells.{row_of, day_of}
-use Rattle.core_check.proofs.Tables.{instruments-by_place, places-counted}
+use Rattle.core_check.proofs.Tables.{limits-by_place, tier_places-counted}
 use Rattle.core_check.proofs.closings.check_limits.Goals as goal
 
 pub returns : goal.returns
 returns c =
     let case = c.args.case.now in
     let x = c.args.calendar.now in
-    let tests = λ (p : ℕ). limit_test case x.den (amounts_of case x) (row_of case p) (day_of case p) in
+    let tests = λ (p : ℕ). limit_test case (plan_of case x) (row_at_place case p) (day_at_place case p) (tier_at_place case p) in
     let judged = c.check_each.ensures tests (λ p r under judge. search rules) in
-    let count = places-counted c.instruments.result c.from.result (length case.instruments) case.horizon c.instruments.ensures (c.from.ensures ∙ c.horizon.ensures.value) in
+    let count = tier_places-counted c.instruments.result c.from.result c.from-2.result (length case.instruments) case.horizon (tiers case)
+    c.instruments.ensures (c.from.ensures ∙ c.horizon.ensures.value) (c.from-2.ensures ∙ c.tiers.ensures) in
     judged
-    ∙ ap (λ (n : ℕ). answer (places_of 5 1 (map tests (below n)))) count
-    ∙ ap (λ ts. answer (places_of 5 1 ts)) (sym (instruments-by_place case (limit_test case x.den (amounts_of case x))))
+    ∙ ap (λ (n : ℕ). answer (places_of Limits 1 (map tests (below n)))) count
+    ∙ ap (λ ts. answer (places_of Limits 1 ts)) (sym (limits-by_place case (limit_test case (plan_of case x))))

@@ -2,18 +2,18 @@ use Rattle.std.proofs.Common.{◌≡◌, rules, sym, ◌∙◌, ap, subst, ◌*�
 use mir.Syntax.{w128}
 use Rattle.std.proofs.lemmas.Int.{to_z-of_z}
 use Rattle.core_book.specs.View.{line}
-use Rattle.core_model.specs.Bounds.{amounts_of}
-use Rattle.core_model.specs.Check.{closes_line, closings}
+use Rattle.core_model.specs.Check.{by_day_and_tier, closes_line}
 use Rattle.core_wide.specs.Steps.{Leaves, Stays}
 use Rattle.core_check.proofs.Judging.{both-stay, first-leaves, second-leaves}
 use Rattle.core_check.proofs.closings.is_closed.Goals as goal
+use Rattle.core_model.specs.Layout.{plan_of}
 
 pub returns-in_err-closed : goal.returns-in_err-closed
 returns-in_err-closed c =
     let case = c.args.case.now in
     let x = c.args.calendar.now in
     rw c.from_residual.ensures
-    (first-leaves (closes_line (line case c.args.l).side) [] (closings case (amounts_of case x) c.args.l) ((line case c.args.l).amount *ℤ x.den) (sym c.in_err-closed.ensures))
+    (first-leaves (closes_line (line case c.args.l).side) [] (by_day_and_tier case ((plan_of case x).amount c.args.l)) ((line case c.args.l).amount *ℤ x.den) (sym c.in_err-closed.ensures))
 
 pub returns-in_err-whole : goal.returns-in_err-whole
 returns-in_err-whole c =
@@ -25,7 +25,7 @@ returns-in_err-whole c =
     let amount : c.from.result ≡ (line case c.args.l).amount = (simp to_z-of_z at c.from.ensures) ∙ ap (λ y. y.amount) c.line-line.ensures in
     let out : Leaves (c.from.result *ℤ x.den) = simp to_z-of_z at c.in_err-whole.ensures in
     rw c.from_residual-in_err-whole.ensures
-    (second-leaves (closes_line (line case c.args.l).side) [] (closings case (amounts_of case x) c.args.l) ((line case c.args.l).amount *ℤ x.den)
+    (second-leaves (closes_line (line case c.args.l).side) [] (by_day_and_tier case ((plan_of case x).amount c.args.l)) ((line case c.args.l).amount *ℤ x.den)
     (subst (λ z. Leaves (z *ℤ x.den)) amount out))
 
 pub returns : goal.returns
@@ -42,5 +42,5 @@ returns c =
     let answer : c.closes.result ≡ closes_line (line case c.args.l).side c.in_ok-closed.closed c.in_ok-whole.whole =
     (simp to_z-of_z at c.closes.ensures) ∙ ap (λ y. closes_line y.side c.in_ok-closed.closed c.in_ok-whole.whole) c.line-line.ensures in
     ap Some answer
-    ∙ both-stay (closes_line (line case c.args.l).side) [] (closings case (amounts_of case x) c.args.l) ((line case c.args.l).amount *ℤ x.den)
+    ∙ both-stay (closes_line (line case c.args.l).side) [] (by_day_and_tier case ((plan_of case x).amount c.args.l)) ((line case c.args.l).amount *ℤ x.den)
     c.in_ok-closed.closed c.in_ok-whole.whole (sym c.in_ok-closed.ensures) product.0 product.1

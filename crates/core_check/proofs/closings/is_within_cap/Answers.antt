@@ -2,33 +2,32 @@ use Rattle.std.proofs.Common.{◌≡◌, rules, sym, ◌∙◌, ap, subst, ℕ, 
 use mir.Syntax.{w128}
 use Rattle.std.proofs.lemmas.Int.{to_z-of_z}
 use Rattle.core_book.specs.View.{pool}
-use Rattle.core_model.specs.Bounds.{amounts_of}
-use Rattle.core_model.specs.Check.{pool_terms, pool_test}
-use Rattle.core_check.specs.Cells.{row_of}
+use Rattle.core_model.specs.Check.{pool_numbers, pool_terms, pool_test}
 use Rattle.core_wide.specs.Steps.{Leaves, Stays}
-use Rattle.core_check.specs.Steps.{judged, pool_numbers}
+use Rattle.core_check.specs.Steps.{judged}
 use Rattle.core_check.proofs.Judging.{both-stay, first-leaves, second-leaves}
 use Rattle.core_check.proofs.closings.is_within_cap.Goals as goal
+use Rattle.core_model.specs.Layout.{plan_of}
+use Rattle.core_check.proofs.Tables.{pool-cell-at}
 
 pub returns-in_err-closed : goal.returns-in_err-closed
 returns-in_err-closed c =
     let case = c.args.case.now in
     let x = c.args.calendar.now in
-    let a = amounts_of case x in
-    let i = c.closing_cell-p.result.0 in
-    let u = c.closing_cell-p.result.1 in
+    let a = plan_of case x in
+    let i = c.pool_cell-cell.result.row in
+    let u = c.pool_cell-cell.result.day in
     c.from_residual.ensures
     ∙ first-leaves int_le (pool_numbers case a i u) (pool_terms case a i u) ((pool case i).cap *ℤ x.den) (sym c.in_err-closed.ensures)
-    ∙ ap (λ (n : ℕ). judged (pool_test case x.den a n u)) c.closing_cell-p.ensures.row_is
-    ∙ ap (λ (n : ℕ). judged (pool_test case x.den a (row_of case c.args.place) n)) c.closing_cell-p.ensures.day_is
+    ∙ pool-cell-at case c.pools.result c.args.place c.pool_cell-cell.result (λ p v. judged (pool_test case a p v)) c.pool_cell-cell.ensures
 
 pub returns-in_err-most : goal.returns-in_err-most
 returns-in_err-most c =
     let case = c.args.case.now in
     let x = c.args.calendar.now in
-    let a = amounts_of case x in
-    let i = c.closing_cell-p.result.0 in
-    let u = c.closing_cell-p.result.1 in
+    let a = plan_of case x in
+    let i = c.pool_cell-cell.result.row in
+    let u = c.pool_cell-cell.result.day in
     let narrow : FitsSigned w64 c.pool.result.cap = search rules in
     let wide : FitsSigned w128 c.from.result = search rules in
     let den : FitsSigned w128 x.den = search rules in
@@ -36,16 +35,15 @@ returns-in_err-most c =
     let out : Leaves (c.from.result *ℤ x.den) = simp to_z-of_z at c.in_err-most.ensures in
     c.from_residual-in_err-most.ensures
     ∙ second-leaves int_le (pool_numbers case a i u) (pool_terms case a i u) ((pool case i).cap *ℤ x.den) (subst (λ z. Leaves (z *ℤ x.den)) most out)
-    ∙ ap (λ (n : ℕ). judged (pool_test case x.den a n u)) c.closing_cell-p.ensures.row_is
-    ∙ ap (λ (n : ℕ). judged (pool_test case x.den a (row_of case c.args.place) n)) c.closing_cell-p.ensures.day_is
+    ∙ pool-cell-at case c.pools.result c.args.place c.pool_cell-cell.result (λ p v. judged (pool_test case a p v)) c.pool_cell-cell.ensures
 
 pub returns : goal.returns
 returns c =
     let case = c.args.case.now in
     let x = c.args.calendar.now in
-    let a = amounts_of case x in
-    let i = c.closing_cell-p.result.0 in
-    let u = c.closing_cell-p.result.1 in
+    let a = plan_of case x in
+    let i = c.pool_cell-cell.result.row in
+    let u = c.pool_cell-cell.result.day in
     let narrow : FitsSigned w64 c.pool.result.cap = search rules in
     let wide : FitsSigned w128 c.from.result = search rules in
     let den : FitsSigned w128 x.den = search rules in
@@ -56,5 +54,4 @@ returns c =
     simp to_z-of_z
     (both-stay int_le (pool_numbers case a i u) (pool_terms case a i u) ((pool case i).cap *ℤ x.den) c.in_ok-closed.closed c.in_ok-most.most
     (sym c.in_ok-closed.ensures) product.0 product.1
-    ∙ ap (λ (n : ℕ). judged (pool_test case x.den a n u)) c.closing_cell-p.ensures.row_is
-    ∙ ap (λ (n : ℕ). judged (pool_test case x.den a (row_of case c.args.place) n)) c.closing_cell-p.ensures.day_is)
+    ∙ pool-cell-at case c.pools.result c.args.place c.pool_cell-cell.result (λ p v. judged (pool_test case a p v)) c.pool_cell-cell.ensures)

@@ -5,6 +5,7 @@ use Rattle.core_check.specs.declared.fault.CheckFault.TheVariants.{No}
 use Rattle.core_check.proofs.Order.{answer-on, answer-ends, place-answers}
 use Rattle.core_check.proofs.Joining.{den, den-low, den-pass, weighed}
 use Rattle.core_check.proofs.conditions.check_cannot.Goals as goal
+use Rattle.core_model.specs.declared.condition.Condition.TheVariants.{Bound}
 
 pub returns-then-weights-lt1 : goal.returns-then-weights-lt1
 returns-then-weights-lt1 c =
@@ -24,14 +25,14 @@ returns-in_err-check_weights c =
     ∙ ap Err passed_on.2
     ∙ sym
     (answer-on (den w.den) (weight_places case w (pos 0) (refuses_test case w)) (den-pass w.den high)
-    ∙ answer-ends (weighed case w (pos 0)) (places_of 12 1 (refuses_test case w ∷ [])) fault (sym c.in_err-check_weights.ensures))
+    ∙ answer-ends (weighed case w (pos 0)) (places_of Bound 1 (refuses_test case w ∷ [])) fault (sym c.in_err-check_weights.ensures))
 
 pub returns : goal.returns
 returns c =
     let case = c.args.case.now in
     let w = c.args.weights.now in
     let high : pos 1 ≤ℤ w.den = search rules in
-    place-answers 12 1 (refuses_test case w) c.refuses.result c.judge_place.result c.refuses.ensures c.judge_place.ensures
+    place-answers Bound 1 (refuses_test case w) c.refuses.result c.judge_place.result c.refuses.ensures c.judge_place.ensures
     ∙ sym
     (answer-on (den w.den) (weight_places case w (pos 0) (refuses_test case w)) (den-pass w.den high)
-    ∙ answer-on (weighed case w (pos 0)) (places_of 12 1 (refuses_test case w ∷ [])) (sym c.in_ok-check_weights.ensures))
+    ∙ answer-on (weighed case w (pos 0)) (places_of Bound 1 (refuses_test case w ∷ [])) (sym c.in_ok-check_weights.ensures))

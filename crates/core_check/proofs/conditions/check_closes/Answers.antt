@@ -2,7 +2,6 @@ use Rattle.std.proofs.Common.{◌≡◌, rules, sym, ◌∙◌, ap, pos, ◌≤�
 use mir.Syntax.{w128}
 use Rattle.std.proofs.lemmas.Int.{to_z-of_z}
 use Rattle.std.proofs.lemmas.Result.{err_from_is_err_and}
-use Rattle.core_model.specs.Bounds.{amounts_of}
 use Rattle.core_model.specs.Check.{places_of, calendar_places, weight_places, meets_test}
 use Rattle.core_check.specs.declared.fault.CheckFault.TheVariants.{No}
 use Rattle.core_check.specs.Answers.{answer}
@@ -10,6 +9,8 @@ use Rattle.core_check.specs.Steps.{judged}
 use Rattle.core_check.proofs.Order.{answer-on, answer-ends, place-answers}
 use Rattle.core_check.proofs.Joining.{dens, first-low, second-low, dens-pass, weighed, first-ends, second-ends, third-answers}
 use Rattle.core_check.proofs.conditions.check_closes.Goals as goal
+use Rattle.core_model.specs.Layout.{plan_of}
+use Rattle.core_model.specs.declared.condition.Condition.TheVariants.{Bound}
 
 pub returns-then-calendar-lt1 : goal.returns-then-calendar-lt1
 returns-then-calendar-lt1 c =
@@ -19,7 +20,7 @@ returns-then-calendar-lt1 c =
     let loss = c.args.loss in
     let low : x.den <ℤ pos 1 = search rules in
     sym
-    (first-ends (dens x.den w.den) (calendar_places case x.den (amounts_of case x) loss) (weight_places case w w.den (meets_test case w x.den loss)) (No 1 1)
+    (first-ends (dens x.den w.den) (calendar_places case (plan_of case x) loss) (weight_places case w w.den (meets_test case w x.den loss)) (No 1 1)
     (first-low x.den w.den low))
 
 pub returns-then-weights-lt1 : goal.returns-then-weights-lt1
@@ -31,7 +32,7 @@ returns-then-weights-lt1 c =
     let high : pos 1 ≤ℤ x.den = search rules in
     let low : w.den <ℤ pos 1 = search rules in
     sym
-    (first-ends (dens x.den w.den) (calendar_places case x.den (amounts_of case x) loss) (weight_places case w w.den (meets_test case w x.den loss)) (No 1 2)
+    (first-ends (dens x.den w.den) (calendar_places case (plan_of case x) loss) (weight_places case w w.den (meets_test case w x.den loss)) (No 1 2)
     (second-low x.den w.den high low))
 
 pub returns-in_err-check_calendar : goal.returns-in_err-check_calendar
@@ -44,12 +45,12 @@ returns-in_err-check_calendar c =
     let first : pos 1 ≤ℤ x.den = search rules in
     let second : pos 1 ≤ℤ w.den = search rules in
     let fault = c.in_err-check_calendar.field-0.0 in
-    let here : Err fault ≡ answer (calendar_places case x.den (amounts_of case x) loss) = simp to_z-of_z at c.in_err-check_calendar.ensures in
+    let here : Err fault ≡ answer (calendar_places case (plan_of case x) loss) = simp to_z-of_z at c.in_err-check_calendar.ensures in
     let passed_on = err_from_is_err_and c.from_residual.result c.from_residual.ensures.1 in
     passed_on.1
     ∙ ap Err passed_on.2
     ∙ sym
-    (second-ends (dens x.den w.den) (calendar_places case x.den (amounts_of case x) loss) (weight_places case w w.den (meets_test case w x.den loss))
+    (second-ends (dens x.den w.den) (calendar_places case (plan_of case x) loss) (weight_places case w w.den (meets_test case w x.den loss))
     fault (dens-pass x.den w.den first second) (sym here))
 
 pub returns-in_err-check_weights : goal.returns-in_err-check_weights
@@ -62,16 +63,16 @@ returns-in_err-check_weights c =
     let den : FitsSigned w128 w.den = search rules in
     let first : pos 1 ≤ℤ x.den = search rules in
     let second : pos 1 ≤ℤ w.den = search rules in
-    let calendar : Ok tt ≡ answer (calendar_places case x.den (amounts_of case x) loss) = simp to_z-of_z at c.in_ok-check_calendar.ensures in
+    let calendar : Ok tt ≡ answer (calendar_places case (plan_of case x) loss) = simp to_z-of_z at c.in_ok-check_calendar.ensures in
     let fault = c.in_err-check_weights.field-0.0 in
     let here : Err fault ≡ answer (weighed case w w.den) = simp to_z-of_z at c.in_err-check_weights.ensures in
     let passed_on = err_from_is_err_and c.from_residual-in_err-check_weights.result c.from_residual-in_err-check_weights.ensures.1 in
     passed_on.1
     ∙ ap Err passed_on.2
     ∙ sym
-    (third-answers (dens x.den w.den) (calendar_places case x.den (amounts_of case x) loss) (weight_places case w w.den (meets_test case w x.den loss))
+    (third-answers (dens x.den w.den) (calendar_places case (plan_of case x) loss) (weight_places case w w.den (meets_test case w x.den loss))
     (dens-pass x.den w.den first second) (sym calendar)
-    ∙ answer-ends (weighed case w w.den) (places_of 12 1 (meets_test case w x.den loss ∷ [])) fault (sym here))
+    ∙ answer-ends (weighed case w w.den) (places_of Bound 1 (meets_test case w x.den loss ∷ [])) fault (sym here))
 
 pub returns : goal.returns
 returns c =
@@ -84,11 +85,11 @@ returns c =
     let den : FitsSigned w128 w.den = search rules in
     let first : pos 1 ≤ℤ x.den = search rules in
     let second : pos 1 ≤ℤ w.den = search rules in
-    let calendar : Ok tt ≡ answer (calendar_places case x.den (amounts_of case x) loss) = simp to_z-of_z at c.in_ok-check_calendar.ensures in
+    let calendar : Ok tt ≡ answer (calendar_places case (plan_of case x) loss) = simp to_z-of_z at c.in_ok-check_calendar.ensures in
     let weights : Ok tt ≡ answer (weighed case w w.den) = simp to_z-of_z at c.in_ok-check_weights.ensures in
     let last : c.meets.result ≡ judged (meets_test case w x.den loss) = simp to_z-of_z at c.meets.ensures in
-    place-answers 12 1 (meets_test case w x.den loss) c.meets.result c.judge_place.result last c.judge_place.ensures
+    place-answers Bound 1 (meets_test case w x.den loss) c.meets.result c.judge_place.result last c.judge_place.ensures
     ∙ sym
-    (third-answers (dens x.den w.den) (calendar_places case x.den (amounts_of case x) loss) (weight_places case w w.den (meets_test case w x.den loss))
+    (third-answers (dens x.den w.den) (calendar_places case (plan_of case x) loss) (weight_places case w w.den (meets_test case w x.den loss))
     (dens-pass x.den w.den first second) (sym calendar)
-    ∙ answer-on (weighed case w w.den) (places_of 12 1 (meets_test case w x.den loss ∷ [])) (sym weights))
+    ∙ answer-on (weighed case w w.den) (places_of Bound 1 (meets_test case w x.den loss ∷ [])) (sym weights))

@@ -8,6 +8,7 @@ use Rattle.core_check.specs.Steps.{judged}
 use Rattle.core_check.proofs.Order.{place-answers}
 use Rattle.core_check.proofs.Joining.{weight_signs, weight_sum, charged, first-ends, second-ends, third-answers}
 use Rattle.core_check.proofs.conditions.check_weights.Goals as goal
+use Rattle.core_model.specs.declared.condition.Condition.TheVariants.{WeightSum}
 
 pub returns-in_err-check_weight_signs : goal.returns-in_err-check_weight_signs
 returns-in_err-check_weight_signs c =
@@ -28,7 +29,7 @@ returns-in_err-judge_place c =
     let sum : c.have_sum.result ≡ judged (sum_test case w c.args.sum) = simp to_z-of_z at c.have_sum.ensures in
     let fault = c.in_err-judge_place.field-0.0 in
     let here : Err fault ≡ answer (weight_sum case w c.args.sum) =
-    place-answers 10 1 (sum_test case w c.args.sum) c.have_sum.result (Err fault) sum c.in_err-judge_place.ensures in
+    place-answers WeightSum 1 (sum_test case w c.args.sum) c.have_sum.result (Err fault) sum c.in_err-judge_place.ensures in
     let passed_on = err_from_is_err_and c.from_residual-in_err-judge_place.result c.from_residual-in_err-judge_place.ensures.1 in
     passed_on.1
     ∙ ap Err passed_on.2
@@ -43,7 +44,7 @@ returns c =
     let fits : FitsSigned w128 c.args.sum = c.ranges.sum in
     let sum : c.have_sum.result ≡ judged (sum_test case w c.args.sum) = simp to_z-of_z at c.have_sum.ensures in
     let here : Ok tt ≡ answer (weight_sum case w c.args.sum) =
-    place-answers 10 1 (sum_test case w c.args.sum) c.have_sum.result (Ok tt) sum c.in_ok-judge_place.ensures in
+    place-answers WeightSum 1 (sum_test case w c.args.sum) c.have_sum.result (Ok tt) sum c.in_ok-judge_place.ensures in
     c.check_charges.ensures
     ∙ sym
     (third-answers (weight_signs case w) (weight_sum case w c.args.sum) (charged case w)

@@ -6,6 +6,7 @@ use Rattle.core_check.specs.Answers.{answer}
 use Rattle.core_check.proofs.Judging.{plain-judged}
 use Rattle.core_check.proofs.WeightSigns.{not_negative, limit_signs, pool_signs, scenario-fault, limit-fault, pool-fault, full-answer, weights-few}
 use Rattle.core_check.proofs.weights.check_weight_signs.Goals as goal
+use Rattle.core_model.specs.declared.condition.Condition.TheVariants.{WeightSigns}
 
 pub check_each-requires-clause-room : goal.check_each-requires-clause-room
 check_each-requires-clause-room c =
@@ -26,7 +27,7 @@ returns-in_err-check_not_negative-2 c =
     let passed_on = err_from_is_err_and c.from_residual-in_err-check_not_negative-2.result c.from_residual-in_err-check_not_negative-2.ensures.1 in
     let fault = c.in_err-check_not_negative-2.field-0.0 in
     let here : answer (limit_signs w) ≡ Err fault =
-    ap (λ (n : ℕ). answer (places_of 9 (1 + n) (not_negative w.limit))) (sym c.len-scenarios.ensures) ∙ sym c.in_err-check_not_negative-2.ensures in
+    ap (λ (n : ℕ). answer (places_of WeightSigns (1 + n) (not_negative w.limit))) (sym c.len-scenarios.ensures) ∙ sym c.in_err-check_not_negative-2.ensures in
     passed_on.1
     ∙ ap Err passed_on.2
     ∙ sym (limit-fault c.args.case.now w fault c.requires.fits (sym c.in_ok-check_not_negative.ensures) here)
@@ -37,10 +38,10 @@ returns-in_err-check_not_negative-3 c =
     let passed_on = err_from_is_err_and c.from_residual-in_err-check_not_negative-3.result c.from_residual-in_err-check_not_negative-3.ensures.1 in
     let fault = c.in_err-check_not_negative-3.field-0.0 in
     let second : answer (limit_signs w) ≡ Ok tt =
-    ap (λ (n : ℕ). answer (places_of 9 (1 + n) (not_negative w.limit))) (sym c.len-scenarios.ensures) ∙ sym c.in_ok-check_not_negative-2.ensures in
+    ap (λ (n : ℕ). answer (places_of WeightSigns (1 + n) (not_negative w.limit))) (sym c.len-scenarios.ensures) ∙ sym c.in_ok-check_not_negative-2.ensures in
     let count : length w.scenario + length w.limit ≡ c.len-scenarios.result + c.len-limits.result = omega (arith, c.len-scenarios.ensures, c.len-limits.ensures) in
     let here : answer (pool_signs w) ≡ Err fault =
-    ap (λ (n : ℕ). answer (places_of 9 (1 + n) (not_negative w.pool))) count ∙ sym c.in_err-check_not_negative-3.ensures in
+    ap (λ (n : ℕ). answer (places_of WeightSigns (1 + n) (not_negative w.pool))) count ∙ sym c.in_err-check_not_negative-3.ensures in
     passed_on.1
     ∙ ap Err passed_on.2
     ∙ sym (pool-fault c.args.case.now w fault c.requires.fits (sym c.in_ok-check_not_negative.ensures) second here)
@@ -50,14 +51,14 @@ returns c =
     let case = c.args.case.now in
     let w = c.args.weights.now in
     let second : answer (limit_signs w) ≡ Ok tt =
-    ap (λ (n : ℕ). answer (places_of 9 (1 + n) (not_negative w.limit))) (sym c.len-scenarios.ensures) ∙ sym c.in_ok-check_not_negative-2.ensures in
+    ap (λ (n : ℕ). answer (places_of WeightSigns (1 + n) (not_negative w.limit))) (sym c.len-scenarios.ensures) ∙ sym c.in_ok-check_not_negative-2.ensures in
     let count : length w.scenario + length w.limit ≡ c.len-scenarios.result + c.len-limits.result = omega (arith, c.len-scenarios.ensures, c.len-limits.ensures) in
     let third : answer (pool_signs w) ≡ Ok tt =
-    ap (λ (n : ℕ). answer (places_of 9 (1 + n) (not_negative w.pool))) count ∙ sym c.in_ok-check_not_negative-3.ensures in
+    ap (λ (n : ℕ). answer (places_of WeightSigns (1 + n) (not_negative w.pool))) count ∙ sym c.in_ok-check_not_negative-3.ensures in
     let before : 1 + c.len-scenarios.result + c.len-limits.result + c.len-pools.result ≡ 1 + length w.scenario + length w.limit + length w.pool =
     omega (arith, c.len-scenarios.ensures, c.len-limits.ensures, c.len-pools.ensures) in
     let last = c.check_each.ensures (full_sign case w) (λ l r under judge. search (rules, plain-judged)) in
     last
-    ∙ ap (λ (n : ℕ). answer (places_of 9 (1 + c.len-scenarios.result + c.len-limits.result + c.len-pools.result) (map (full_sign case w) (below n)))) c.lines.ensures
-    ∙ ap (λ (n : ℕ). answer (places_of 9 n (by_line case (full_sign case w)))) before
+    ∙ ap (λ (n : ℕ). answer (places_of WeightSigns (1 + c.len-scenarios.result + c.len-limits.result + c.len-pools.result) (map (full_sign case w) (below n)))) c.lines.ensures
+    ∙ ap (λ (n : ℕ). answer (places_of WeightSigns n (by_line case (full_sign case w)))) before
     ∙ sym (full-answer case w c.requires.fits (sym c.in_ok-check_not_negative.ensures) second third)
