@@ -183,7 +183,7 @@ pool-left = refl
 
 -- ten of a future on its expiry, above the limit of nine, which does not count there
 abbrev expiring_weights : Weights
-expiring_weights = record { den = pos 1; scenario = numbers (0 ∷ 1 ∷ 0 ∷ []); limit = numbers (0 ∷ []); pool = []; full = numbers (10 ∷ []) }
+expiring_weights = record { den = pos 1; scenario = numbers (0 ∷ 0 ∷ 1 ∷ []); limit = numbers (0 ∷ []); pool = []; full = numbers (10 ∷ []) }
 
 expiry-passes : verdict expiring (closing (pos 1) (numbers (10 ∷ [])) (pos 100) expiring_weights) ≡ Passed
 unfolding sum_below total partial_sums below days_to each has least_below working_dates open_days open_day_before places_of verdict_of
@@ -200,7 +200,7 @@ expiry-undercharged = refl
 
 -- six of a future in its first tier and four in the second at three each lose 112, of which the first tier's limit saves 18
 abbrev deep_weights : Weights
-deep_weights = record { den = pos 1; scenario = numbers (0 ∷ 1 ∷ 0 ∷ []); limit = numbers (3 ∷ 0 ∷ []); pool = []; full = numbers (13 ∷ []) }
+deep_weights = record { den = pos 1; scenario = numbers (0 ∷ 0 ∷ 1 ∷ []); limit = numbers (3 ∷ 0 ∷ []); pool = []; full = numbers (13 ∷ []) }
 
 deep-passes : verdict deep (closing (pos 1) (numbers (6 ∷ 4 ∷ [])) (pos 112) deep_weights) ≡ Passed
 unfolding sum_below total partial_sums below days_to each has least_below working_dates open_days open_day_before places_of verdict_of

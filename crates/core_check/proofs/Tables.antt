@@ -1,8 +1,11 @@
 -- The lists of the check by place, and what stands at the place of a cell.
-use Rattle.std.proofs.Common.{◌≡◌, sym, ◌∙◌, ap, ℕ, suc, ◌+◌, ◌*◌, ◌%◌, ◌/◌, ◌++◌, arith, length, map}
+use Rattle.std.proofs.Common.{◌≡◌, sym, ◌∙◌, ap, ℕ, suc, ◌+◌, ◌*◌, ◌%◌, ◌/◌, ◌++◌, ◌≤◌, arith, length, map}
+use Rattle.std.proofs.Math.Nat.{mul-le-mul}
 use Rattle.core_sums.specs.Places.{below}
 use Rattle.core_sums.proofs.Joined.{each-none, each-below-more}
 use Rattle.core_book.specs.View.{CaseView, tiers}
+use Rattle.core_book.specs.Kept.{IsCase}
+use Rattle.core_model.proofs.FewLines.{lines-few}
 use Rattle.core_model.specs.declared.layout.ClosingCell.{ClosingCell}
 use Rattle.core_model.specs.declared.layout.DayCell.{DayCell}
 use Rattle.core_model.specs.Layout.{row_at_place, day_at_place, tier_at_place, pool_at_place, pool_day_at_place, scenario_at_place, house_day_at_place, amount_count, limit_count, pool_count, scenario_count, IsClosingCell, IsPoolCell, IsScenarioCell}
@@ -63,3 +66,7 @@ tier_places-counted n m o rows days tiers first second third = places-counted (n
 
 pub house_places-counted : (n rows last days : ℕ) → n ≡ rows → last ≡ days → n * (last + 1) ≡ rows * suc days
 house_places-counted n rows last days first second = places-counted n (last + 1) rows (suc days) first (omega (arith, second))
+
+-- there are few lines by day
+pub line_days-few : (c : CaseView) → IsCase c → length c.lines * c.horizon ≤ 1280
+line_days-few c kept = let few : length c.lines * c.horizon ≤ 64 * 20 = mul-le-mul (lines-few c kept) kept.horizon.1 in omega (arith, few)

@@ -60,9 +60,9 @@ numbered : (xs ys zs vs : List Test) (a b d : ℕ) → length xs ≡ a → lengt
 numbered xs ys zs vs a b d e f g =
     let two : 1 + length (xs ++ ys) ≡ 1 + (a + b) = omega (arith, length-append xs ys, e, f) in
     let three : 1 + length (xs ++ ys ++ zs) ≡ 1 + a + b + d = omega (arith, length-append xs ys, length-append (xs ++ ys) zs, e, f, g) in
-    places-append 9 1 (xs ++ ys ++ zs) vs
+    places-append WeightSigns 1 (xs ++ ys ++ zs) vs
     ∙ ap (λ ps. ps ++ places_of WeightSigns (1 + length (xs ++ ys ++ zs)) vs)
-    (places-append 9 1 (xs ++ ys) zs ∙ ap (λ ps. ps ++ places_of WeightSigns (1 + length (xs ++ ys)) zs) (places-append 9 1 xs ys))
+    (places-append WeightSigns 1 (xs ++ ys) zs ∙ ap (λ ps. ps ++ places_of WeightSigns (1 + length (xs ++ ys)) zs) (places-append WeightSigns 1 xs ys))
     ∙ ap (λ (n : ℕ). places_of WeightSigns 1 xs ++ places_of WeightSigns (1 + n) ys ++ places_of WeightSigns (1 + length (xs ++ ys)) zs ++ places_of WeightSigns (1 + length (xs ++ ys ++ zs)) vs) e
     ∙ ap (λ (n : ℕ). places_of WeightSigns 1 xs ++ places_of WeightSigns (1 + a) ys ++ places_of WeightSigns n zs ++ places_of WeightSigns (1 + length (xs ++ ys ++ zs)) vs) two
     ∙ ap (λ (n : ℕ). places_of WeightSigns 1 xs ++ places_of WeightSigns (1 + a) ys ++ places_of WeightSigns (1 + (a + b)) zs ++ places_of WeightSigns n vs) three

@@ -10,8 +10,8 @@ use Rattle.core_check.proofs.cash.check_loss.Goals as goal
 use Rattle.core_model.specs.Layout.{plan_of}
 use Rattle.core_model.specs.declared.condition.Condition.TheVariants.{Losses, WorstLoss}
 
-pub is_reached-requires-clause-stays : goal.is_reached-requires-clause-stays
-is_reached-requires-clause-stays c =
+pub is_reached-reached-requires-clause-stays : goal.is_reached-reached-requires-clause-stays
+is_reached-reached-requires-clause-stays c =
     let loss : FitsSigned w128 c.args.loss = c.ranges.loss in
     let case = c.args.case.now in
     let a = plan_of case c.args.calendar.now in
@@ -38,6 +38,6 @@ returns c =
     let covered : List Place = places_of Losses 1 (by_scenario_and_day case (loss_test case a c.args.loss)) in
     let reached : List Place = places_of WorstLoss 1 (reached_test case a c.args.loss ∷ []) in
     let test = reached_test case a c.args.loss in
-    place-answers WorstLoss 1 test (Some c.is_reached.result) c.judge_place.result (ap (λ b. Some b) (simp to_z-of_z at c.is_reached.ensures) ∙ plain-judged test.holds)
+    place-answers WorstLoss 1 test (Some c.is_reached-reached.result) c.judge_place.result (ap (λ b. Some b) (simp to_z-of_z at c.is_reached-reached.ensures) ∙ plain-judged test.holds)
     c.judge_place.ensures
     ∙ sym (answer-on covered reached (sym (simp to_z-of_z at c.in_ok-check_covered.ensures)))

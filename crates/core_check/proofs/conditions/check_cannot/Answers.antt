@@ -1,4 +1,4 @@
-use Rattle.std.proofs.Common.{rules, sym, ◌∙◌, ap, pos, ◌≤ℤ◌, ◌<ℤ◌, [], ◌∷◌, Err}
+use Rattle.std.proofs.Common.{ℕ, rules, sym, ◌∙◌, ap, pos, ◌≤ℤ◌, ◌<ℤ◌, [], ◌∷◌, Err}
 use Rattle.std.proofs.lemmas.Result.{err_from_is_err_and}
 use Rattle.core_model.specs.Check.{places_of, refuses_test, weight_places}
 use Rattle.core_check.specs.declared.fault.CheckFault.TheVariants.{No}
@@ -12,7 +12,8 @@ returns-then-weights-lt1 c =
     let case = c.args.case.now in
     let w = c.args.weights.now in
     let low : w.den <ℤ pos 1 = search rules in
-    sym (answer-ends (den w.den) (weight_places case w (pos 0) (refuses_test case w)) (No 1 2) (den-low w.den low))
+    ap (λ (n : ℕ). Err (No n 2)) c.number.ensures
+    ∙ sym (answer-ends (den w.den) (weight_places case w (pos 0) (refuses_test case w)) (No 1 2) (den-low w.den low))
 
 pub returns-in_err-check_weights : goal.returns-in_err-check_weights
 returns-in_err-check_weights c =

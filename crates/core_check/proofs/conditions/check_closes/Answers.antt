@@ -1,4 +1,4 @@
-use Rattle.std.proofs.Common.{◌≡◌, rules, sym, ◌∙◌, ap, pos, ◌≤ℤ◌, ◌<ℤ◌, [], ◌∷◌, Ok, Err, FitsSigned}
+use Rattle.std.proofs.Common.{ℕ, ◌≡◌, rules, sym, ◌∙◌, ap, pos, ◌≤ℤ◌, ◌<ℤ◌, [], ◌∷◌, Ok, Err, FitsSigned}
 use mir.Syntax.{w128}
 use Rattle.std.proofs.lemmas.Int.{to_z-of_z}
 use Rattle.std.proofs.lemmas.Result.{err_from_is_err_and}
@@ -19,7 +19,8 @@ returns-then-calendar-lt1 c =
     let w = c.args.weights.now in
     let loss = c.args.loss in
     let low : x.den <ℤ pos 1 = search rules in
-    sym
+    ap (λ (n : ℕ). Err (No n 1)) c.number.ensures
+    ∙ sym
     (first-ends (dens x.den w.den) (calendar_places case (plan_of case x) loss) (weight_places case w w.den (meets_test case w x.den loss)) (No 1 1)
     (first-low x.den w.den low))
 
@@ -31,7 +32,8 @@ returns-then-weights-lt1 c =
     let loss = c.args.loss in
     let high : pos 1 ≤ℤ x.den = search rules in
     let low : w.den <ℤ pos 1 = search rules in
-    sym
+    ap (λ (n : ℕ). Err (No n 2)) c.number-then-weights-lt1.ensures
+    ∙ sym
     (first-ends (dens x.den w.den) (calendar_places case (plan_of case x) loss) (weight_places case w w.den (meets_test case w x.den loss)) (No 1 2)
     (second-low x.den w.den high low))
 

@@ -8,6 +8,36 @@ use Rattle.core_check.proofs.WeightSigns.{not_negative, limit_signs, pool_signs,
 use Rattle.core_check.proofs.weights.check_weight_signs.Goals as goal
 use Rattle.core_model.specs.declared.condition.Condition.TheVariants.{WeightSigns}
 
+pub overflow_cast-limits : goal.overflow_cast-limits
+overflow_cast-limits c =
+    let few = weights-few c.args.case.now c.args.weights.now c.requires.kept c.requires.fits in
+    omega (arith, few, c.len-limits.ensures)
+
+pub check_not_negative-requires-2 : goal.check_not_negative-requires-2
+check_not_negative-requires-2 c =
+    let few = weights-few c.args.case.now c.args.weights.now c.requires.kept c.requires.fits in
+    omega (arith, few, c.len-scenarios.ensures)
+
+pub overflow_add-scenarios : goal.overflow_add-scenarios
+overflow_add-scenarios c =
+    let few = weights-few c.args.case.now c.args.weights.now c.requires.kept c.requires.fits in
+    omega (arith, few, c.len-scenarios.ensures, c.len-limits.ensures)
+
+pub check_not_negative-requires-3 : goal.check_not_negative-requires-3
+check_not_negative-requires-3 c =
+    let few = weights-few c.args.case.now c.args.weights.now c.requires.kept c.requires.fits in
+    omega (arith, few, c.len-scenarios.ensures, c.len-limits.ensures)
+
+pub overflow_add-scenarios-3 : goal.overflow_add-scenarios-3
+overflow_add-scenarios-3 c =
+    let few = weights-few c.args.case.now c.args.weights.now c.requires.kept c.requires.fits in
+    omega (arith, few, c.len-scenarios.ensures, c.len-limits.ensures)
+
+pub overflow_add-scenarios-4 : goal.overflow_add-scenarios-4
+overflow_add-scenarios-4 c =
+    let few = weights-few c.args.case.now c.args.weights.now c.requires.kept c.requires.fits in
+    omega (arith, few, c.len-scenarios.ensures, c.len-limits.ensures, c.len-pools.ensures)
+
 pub check_each-requires-clause-room : goal.check_each-requires-clause-room
 check_each-requires-clause-room c =
     let few = weights-few c.args.case.now c.args.weights.now c.requires.kept c.requires.fits in
