@@ -17,7 +17,7 @@ use Rattle.core_model.specs.Bounds.{charge, bound, AreWeights, AreRefusing}
 use Rattle.core_model.specs.Check.{Test, plain, of_terms, against, closes_line, tier_closings, pool_terms, cash_terms, sign_test, allowed_test, full_test, limit_test, pool_test, loss_test, reached_test, is_full_sign, scenario_sign, limit_sign, pool_sign, full_sign, weight_tests, scenario_terms, sum_test, charge_terms, charge_test, bound_terms, refuses_test, by_line, by_day_and_tier, by_closing, by_limit, by_pool_and_day, by_scenario_and_day}
 use Rattle.core_book.proofs.Depth.{within-depth}
 use Rattle.core_model.proofs.Sizes.{instrument-known}
-use Rattle.core_check.proofs.Units.{cash_by_units}
+use Rattle.core_flows.proofs.CashLaw.{cash_by_units}
 use Rattle.core_check.proofs.Least.{worst_loss-bounds}
 use Rattle.core_check.proofs.Passing.{holds, all-left, all-right, all-by_day, all-by_index, all-tiered, all-mapped, any-by_index}
 use Rattle.core_check.proofs.Totals.{closings-total, tier_closings-total, pool_terms-total, cash_terms-total, scenario_terms-total, charge_terms-total, bound_terms-total}

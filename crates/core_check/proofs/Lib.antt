@@ -3,7 +3,6 @@ mod Slots
 mod Duality
 mod Charging
 mod Pools
-mod Units
 pub mod Weak
 pub mod Least
 mod Passing

@@ -13,7 +13,7 @@ use Rattle.core_model.specs.declared.cert.Weights.{Weights}
 use Rattle.core_model.specs.Closing.{Plan, line_count, IsAdmissible, closed_of, pooled, fixed, cash_of, loss_of, CannotClose}
 use Rattle.core_model.specs.Bounds.{pool_charge, AreWeights, AreRefusing, sum_losses, sum_limits, sum_pools, bound}
 use Rattle.core_flows.specs.Laws.{paid_units}
-use Rattle.core_check.proofs.Units.{cash_by_units}
+use Rattle.core_flows.proofs.CashLaw.{cash_by_units}
 use Rattle.core_check.proofs.Duality.{weighted_paid, weighted_paid-le}
 use Rattle.core_check.proofs.Charging.{charges-split, charges-by_instrument, limit-le, full_charge-le}
 use Rattle.core_check.proofs.Pools.{pool-regrouped, pool-le}
