@@ -1,26 +1,25 @@
 // Runs to their end, at one width and at the other.
 ghost use Rattle.std.specs.Prelude.{◌≡◌};
-ghost use Rattle.core_dict.specs.Dictionary.{start as start_of};
 ghost use Rattle.core_rules.specs.Kept.{rule_view, plain_rule, Keeps};
 
-use crate::choice::{next_pivot, numbers, pivots, widest};
 use crate::clock::spent;
 use crate::file::file_bytes;
 use crate::programme::programme_of;
+use crate::widest::widest_met;
 use anyhow::{Result, bail};
 use core_dict::{Dense, Programme, Store};
 use core_io::Shelf;
 use core_rules::{Cand, Rule};
-use core_run::{End, Ran, RunFault, run_wide};
+use core_run::{End, Ran, run_wide};
 use exact_frac::{Exact, Frac64, Frac128};
 use std::time::CpuClock;
 
 // The most pivots of a run.
 const BUDGET: u64 = 100_000;
 
-/// Prints for the run of a programme by the least variable, at 64 bits, at 128 bits, and at 64 bits first, how it ended,
-/// after how many pivots, how long it took, the most bits of a number that stood in its dictionaries, and what the last
-/// column is at its end.
+/// Prints for the run of a programme by the least variable, at 64 bits, at 128 bits, and at 64 bits first, after how many
+/// pivots it ended, how many nanoseconds it took, the most bits of a number that stood in its dictionaries, and what the
+/// last column is at its end. The bits of the run at 64 bits first are those of the run at 128 bits.
 pub fn run<R: Print + AllocGlobal + CpuClock, S: Shelf>(
     rt: &R,
     shelf: &mut S,
@@ -29,7 +28,7 @@ pub fn run<R: Print + AllocGlobal + CpuClock, S: Shelf>(
     let bytes = file_bytes(rt.alloc(), shelf, name)?;
     let programme = programme_of(rt.alloc(), &bytes)?;
     let rule = Rule::keep(0, |kept: &Cand, next: &Cand| next.var < kept.var);
-    rt.println("run,end,pivots,microseconds,bits,last")?;
+    rt.println("run,pivots,nanoseconds,bits,num,den")?;
     time_run::<R, Frac64, Dense<Frac64>, _>(rt, &programme, &rule, "64")?;
     time_run::<R, Frac128, Dense<Frac128>, _>(rt, &programme, &rule, "128")?;
     time_wide(rt, &programme, &rule)
@@ -50,7 +49,12 @@ fn time_run<
     let start = rt.thread_cpu_time()?;
     let answer = core_run::run(rt.alloc(), &mut dict, rule, BUDGET);
     let time = spent(start, rt.thread_cpu_time()?, 0);
-    report::<R, E, D>(rt, name, time, answer, &dict, programme)
+    let bits = widest_met::<E, D, F>(rt.alloc(), programme, rule, BUDGET)?;
+    let last = last_column(&dict);
+    match answer {
+        Ok(end) => report(rt, name, end, time, bits, last),
+        Err(_) => bail!("the run did not end"),
+    }
 }
 
 // The run that begins at 64 bits.
@@ -65,66 +69,35 @@ fn time_wide<'a, R: Print + AllocGlobal + CpuClock, F: Fn(&Cand, &Cand) -> bool>
     let start = rt.thread_cpu_time()?;
     let ran = run_wide::<Dense<Frac64>, Dense<Frac128>, _>(rt.alloc(), programme, rule, BUDGET);
     let time = spent(start, rt.thread_cpu_time()?, 0);
+    let bits = widest_met::<Frac128, Dense<Frac128>, F>(rt.alloc(), programme, rule, BUDGET)?;
     match ran {
-        Ok(Ran { end, dict }) => {
-            report::<R, Frac128, Dense<Frac128>>(rt, "64 first", time, Ok(end), &dict, programme)
-        }
-        Err(fault) => bail!("the run did not end: {fault:?}"),
+        Ok(Ran { end, dict }) => report(rt, "64 first", end, time, bits, last_column(&dict)),
+        Err(_) => bail!("the run did not end"),
     }
 }
 
-fn report<R: Print + AllocGlobal, E: Exact, D: Store<E>>(
+fn report<R: Print, E: Exact>(
     rt: &R,
     name: &str,
+    end: End,
     time: u128,
-    answer: std::result::Result<End, RunFault>,
-    dict: &D,
-    programme: &Programme,
+    bits: u32,
+    last: E,
 ) -> Result<()> {
-    let (end, pivots) = match answer {
-        Ok(End::Optimal { pivots }) => ("optimal", pivots),
-        Ok(End::Cannot { pivots, .. }) => ("cannot", pivots),
-        Err(RunFault::TooWide { pivot }) => ("wide", pivot),
-        Err(RunFault::Spent { pivots }) => ("spent", pivots),
-        Err(RunFault::NoMemory) => bail!("memory ran out"),
+    let pivots = match end {
+        End::Optimal { pivots } | End::Cannot { pivots, .. } => pivots,
     };
-    let bits = widest_met::<R, E, D>(rt, programme, pivots)?;
-    let last = value_of(dict, dict.cols());
-    let microseconds = time / 1_000;
-    rt.println(format_args!(
-        "{name},{end},{pivots},{microseconds},{bits},{}/{}",
-        last.num(),
-        last.den()
-    ))?;
+    let (num, den) = (last.num(), last.den());
+    rt.println(format_args!("{name},{pivots},{time},{bits},{num},{den}"))?;
     Ok(())
 }
 
-// The value of a variable.
-fn value_of<E: Exact, D: Store<E>>(dict: &D, variable: usize) -> E {
+// The value of the last column.
+fn last_column<E: Exact, D: Store<E>>(dict: &D) -> E {
     for row in 0..dict.rows() {
-        if dict.basic(row) as usize == variable {
+        if dict.basic(row) as usize == dict.cols() {
             return dict.value(row);
         }
     }
     E::zero()
-}
-
-// The most bits of a number of the dictionaries of the first pivots.
-fn widest_met<R: AllocGlobal, E: Exact, D: Store<E>>(
-    rt: &R,
-    programme: &Programme,
-    count: u64,
-) -> Result<u32> {
-    let mut dict = D::start(rt.alloc(), programme)?;
-    let mut most = 0;
-    for _ in 0..count {
-        most = most.max(widest(numbers(rt.alloc(), &dict)?.as_slice()));
-        let Some((row, col)) = next_pivot(&dict) else {
-            break;
-        };
-        if !pivots(rt.alloc(), &mut dict, row, col) {
-            break;
-        }
-    }
-    Ok(most.max(widest(numbers(rt.alloc(), &dict)?.as_slice())))
 }

@@ -1,23 +1,19 @@
 // A million of each operation on fractions, beside as many checked operations of i128.
-ghost use Rattle.std.specs.Prelude.{◌≤◌, ◌<◌, ◌^◌};
+ghost use Rattle.std.specs.Prelude.{◌≤◌, ◌^◌};
 
 use crate::clock::spent;
 use anyhow::Result;
-use exact_frac::{Exact, Frac64, Frac128, Left};
+use exact_frac::{Exact, Frac64, Frac128};
 use std::alloc::{AllocError, Global};
-use std::hint::black_box;
 use std::io;
 use std::time::CpuClock;
 
-// How many operands are made, how often each operation is done on all of them, and how many times
-// that is.
+// How many operands are made, and how often each operation is done on all of them.
 const OPERANDS: u64 = 1_000;
 
 const ROUNDS: u64 = 1_000;
 
-const COUNT: u64 = 1_000_000;
-
-#[derive(Clone, Copy, Debug)]
+#[derive(Clone, Copy)]
 enum Operation {
     Plus,
     Minus,
@@ -26,18 +22,18 @@ enum Operation {
     Cmp,
 }
 
-const OPERATIONS: [Operation; 5] = [
-    Operation::Plus,
-    Operation::Minus,
-    Operation::Times,
-    Operation::Over,
-    Operation::Cmp,
+const OPERATIONS: [(Operation, &str); 5] = [
+    (Operation::Plus, "plus"),
+    (Operation::Minus, "minus"),
+    (Operation::Times, "times"),
+    (Operation::Over, "over"),
+    (Operation::Cmp, "cmp"),
 ];
 
-/// Prints for each operation, width and kind of operands the nanoseconds of one operation, those
-/// of the checked one, and their ratio.
+/// Prints for each operation, width and kind of operands the nanoseconds of a million operations, and those of as many
+/// checked ones.
 pub fn run<R: Print + AllocGlobal + CpuClock>(rt: &R) -> Result<()> {
-    rt.println("operation,bits,operands,nanoseconds,checked,ratio")?;
+    rt.println("operation,bits,operands,exact,checked")?;
     report::<R, Frac64>(rt, "64,small", 1 << 10, 1 << 10)?;
     report::<R, Frac64>(rt, "64,wide", 1 << 30, 1 << 30)?;
     report::<R, Frac64>(rt, "64,whole", 1 << 30, 1)?;
@@ -58,20 +54,11 @@ fn report<R: Print + AllocGlobal + CpuClock, E: Exact>(
     requires den_some { 1 ≤ den }
     requires den_in { den ≤ 2 ^ 61 }
 {
-    let fractions = operands::<E>(rt.alloc(), num, den)?;
-    let numbers = numerators(rt.alloc(), fractions.as_slice())?;
-    for operation in OPERATIONS {
-        let exact = time_exact(rt, operation, fractions.as_slice())?;
-        let plain = time_plain(rt, operation, numbers.as_slice())?;
-        let ratio = exact.saturating_mul(100) / plain.max(1);
-        let times = u128::from(COUNT);
-        rt.println(format_args!(
-            "{operation:?},{kind},{},{},{}.{:02}",
-            exact / times,
-            plain / times,
-            ratio / 100,
-            ratio % 100
-        ))?;
+    let all = operands::<E>(rt.alloc(), num, den)?;
+    for (operation, name) in OPERATIONS {
+        let exact = time_exact(rt, operation, &all)?;
+        let checked = time_checked(rt, operation, &all)?;
+        rt.println(format_args!("{name},{kind},{exact},{checked}"))?;
     }
     Ok(())
 }
@@ -94,18 +81,6 @@ fn operands<E: Exact>(alloc: Global, num: u64, den: u64) -> std::result::Result<
     Ok(all)
 }
 
-/// The numerators of fractions.
-pub fn numerators<E: Exact>(
-    alloc: Global,
-    all: &[E],
-) -> std::result::Result<Vec<i128>, AllocError> {
-    let mut numbers = Vec::new(alloc);
-    for f in all {
-        numbers.push(f.num())?;
-    }
-    Ok(numbers)
-}
-
 // The next state of a linear congruential generator (Knuth's constants for 64 bits).
 fn next(state: u64) -> u64 {
     state
@@ -124,11 +99,9 @@ fn whole<E: Exact>(state: u64, bound: u64) -> E
 // n over d, or n where there is no quotient.
 fn quotient<E: Exact>(n: E, d: E) -> E {
     if d.sign() == 0 {
-        return n;
-    }
-    match n.over(d) {
-        Ok(q) => q,
-        Err(Left) => n,
+        n
+    } else {
+        n.over(d).unwrap_or(n)
     }
 }
 
@@ -137,40 +110,31 @@ fn time_exact<R: CpuClock, E: Exact>(rt: &R, operation: Operation, all: &[E]) ->
     let start = rt.thread_cpu_time()?;
     let mut sum = 0u128;
     for _ in 0..ROUNDS {
-        sum ^= exact_round(operation, all);
+        let mut last = E::one();
+        for f in all {
+            sum ^= exact_answer(operation, last, *f);
+            last = *f;
+        }
     }
-    let end = rt.thread_cpu_time()?;
-    Ok(spent(start, end, black_box(sum)))
+    Ok(spent(start, rt.thread_cpu_time()?, sum))
 }
 
-fn time_plain<R: CpuClock>(rt: &R, operation: Operation, all: &[i128]) -> io::Result<u128> {
+// Those of the checked operation on the numerators.
+fn time_checked<R: CpuClock, E: Exact>(
+    rt: &R,
+    operation: Operation,
+    all: &[E],
+) -> io::Result<u128> {
     let start = rt.thread_cpu_time()?;
     let mut sum = 0u128;
     for _ in 0..ROUNDS {
-        sum ^= plain_round(operation, all);
+        let mut last = 1;
+        for f in all {
+            sum ^= checked_answer(operation, last, f.num());
+            last = f.num();
+        }
     }
-    let end = rt.thread_cpu_time()?;
-    Ok(spent(start, end, black_box(sum)))
-}
-
-fn exact_round<E: Exact>(operation: Operation, all: &[E]) -> u128 {
-    let mut sum = 0;
-    let mut last = E::one();
-    for f in all {
-        sum ^= exact_answer(operation, last, *f);
-        last = *f;
-    }
-    sum
-}
-
-fn plain_round(operation: Operation, all: &[i128]) -> u128 {
-    let mut sum = 0;
-    let mut last = 1;
-    for x in all {
-        sum ^= plain_answer(operation, last, *x);
-        last = *x;
-    }
-    sum
+    Ok(spent(start, rt.thread_cpu_time()?, sum))
 }
 
 fn exact_answer<E: Exact>(operation: Operation, a: E, b: E) -> u128 {
@@ -181,13 +145,10 @@ fn exact_answer<E: Exact>(operation: Operation, a: E, b: E) -> u128 {
         Operation::Over => Ok(quotient(a, b)),
         Operation::Cmp => Ok(if a < b { a } else { b }),
     };
-    match answer {
-        Ok(f) => f.num().unsigned_abs(),
-        Err(Left) => 1,
-    }
+    answer.unwrap_or(a).num().unsigned_abs()
 }
 
-fn plain_answer(operation: Operation, a: i128, b: i128) -> u128 {
+fn checked_answer(operation: Operation, a: i128, b: i128) -> u128 {
     let answer = match operation {
         Operation::Plus => a.checked_add(b),
         Operation::Minus => a.checked_sub(b),
@@ -195,8 +156,5 @@ fn plain_answer(operation: Operation, a: i128, b: i128) -> u128 {
         Operation::Over => a.checked_div(b),
         Operation::Cmp => Some(if a < b { a } else { b }),
     };
-    match answer {
-        Some(n) => n.unsigned_abs(),
-        None => 1,
-    }
+    answer.unwrap_or(a).unsigned_abs()
 }

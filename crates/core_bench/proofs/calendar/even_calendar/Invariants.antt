@@ -1,5 +1,0 @@
-use Rattle.core_model.specs.Fits.{AreKept}
-use Rattle.core_bench.proofs.calendar.even_calendar.Given as goal
-
-abbrev pub invariant-loop-place : goal.invariant-loop-place
-invariant-loop-place l = AreKept l.count l.amounts
