@@ -15,15 +15,15 @@ use core_io::FileShelf;
 use std::env;
 
 fn main(rt: HostRuntime) -> Result<()> {
-    let words: Vec<String> = env::args(&rt)?.skip(1).collect(rt.alloc())?;
+    let words: Vec<String> = env::args(&rt)?.collect(rt.alloc())?;
     let mut shelf = FileShelf::make(rt);
     match words.as_slice() {
-        [] => Ok(()),
-        [name] if name.as_str() == "fractions" => timing::run(&rt),
-        [name, file] if name.as_str() == "reading" => {
+        [_] => Ok(()),
+        [_, name] if name.as_str() == "fractions" => timing::run(&rt),
+        [_, name, file] if name.as_str() == "reading" => {
             reading::run(&rt, &mut shelf, file.as_str())
         }
-        [name, file] if name.as_str() == "runs" => runs::run(&rt, &mut shelf, file.as_str()),
+        [_, name, file] if name.as_str() == "runs" => runs::run(&rt, &mut shelf, file.as_str()),
         _ => bail!("the words are `fractions`, `reading FILE` or `runs FILE`"),
     }
 }

@@ -1,4 +1,4 @@
-// A million of each operation on fractions, beside as many checked operations of i128.
+// A million of each operation on fractions.
 ghost use Rattle.std.specs.Prelude.{◌≤◌, ◌^◌};
 
 use crate::clock::spent;
@@ -30,10 +30,9 @@ const OPERATIONS: [(Operation, &str); 5] = [
     (Operation::Cmp, "cmp"),
 ];
 
-/// Prints for each operation, width and kind of operands the nanoseconds of a million operations, and those of as many
-/// checked ones.
+/// Prints for each operation, width and kind of operands the nanoseconds of a million operations.
 pub fn run<R: Print + AllocGlobal + CpuClock>(rt: &R) -> Result<()> {
-    rt.println("operation,bits,operands,exact,checked")?;
+    rt.println("operation,bits,operands,nanoseconds")?;
     report::<R, Frac64>(rt, "64,small", 1 << 10, 1 << 10)?;
     report::<R, Frac64>(rt, "64,wide", 1 << 30, 1 << 30)?;
     report::<R, Frac64>(rt, "64,whole", 1 << 30, 1)?;
@@ -56,9 +55,8 @@ fn report<R: Print + AllocGlobal + CpuClock, E: Exact>(
 {
     let all = operands::<E>(rt.alloc(), num, den)?;
     for (operation, name) in OPERATIONS {
-        let exact = time_exact(rt, operation, &all)?;
-        let checked = time_checked(rt, operation, &all)?;
-        rt.println(format_args!("{name},{kind},{exact},{checked}"))?;
+        let time = time_exact(rt, operation, &all)?;
+        rt.println(format_args!("{name},{kind},{time}"))?;
     }
     Ok(())
 }
@@ -119,24 +117,6 @@ fn time_exact<R: CpuClock, E: Exact>(rt: &R, operation: Operation, all: &[E]) ->
     Ok(spent(start, rt.thread_cpu_time()?, sum))
 }
 
-// Those of the checked operation on the numerators.
-fn time_checked<R: CpuClock, E: Exact>(
-    rt: &R,
-    operation: Operation,
-    all: &[E],
-) -> io::Result<u128> {
-    let start = rt.thread_cpu_time()?;
-    let mut sum = 0u128;
-    for _ in 0..ROUNDS {
-        let mut last = 1;
-        for f in all {
-            sum ^= checked_answer(operation, last, f.num());
-            last = f.num();
-        }
-    }
-    Ok(spent(start, rt.thread_cpu_time()?, sum))
-}
-
 fn exact_answer<E: Exact>(operation: Operation, a: E, b: E) -> u128 {
     let answer = match operation {
         Operation::Plus => a.plus(b),
@@ -146,15 +126,4 @@ fn exact_answer<E: Exact>(operation: Operation, a: E, b: E) -> u128 {
         Operation::Cmp => Ok(if a < b { a } else { b }),
     };
     answer.unwrap_or(a).num().unsigned_abs()
-}
-
-fn checked_answer(operation: Operation, a: i128, b: i128) -> u128 {
-    let answer = match operation {
-        Operation::Plus => a.checked_add(b),
-        Operation::Minus => a.checked_sub(b),
-        Operation::Times => a.checked_mul(b),
-        Operation::Over => a.checked_div(b),
-        Operation::Cmp => Some(if a < b { a } else { b }),
-    };
-    answer.unwrap_or(a).unsigned_abs()
 }
