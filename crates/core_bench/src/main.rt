@@ -11,19 +11,27 @@ mod timing;
 mod widest;
 
 use anyhow::{Result, bail};
-use core_io::FileShelf;
+use core_io::{FileShelf, Shelf};
 use std::env;
+use std::time::CpuClock;
 
 fn main(rt: HostRuntime) -> Result<()> {
     let words: Vec<String> = env::args(&rt)?.collect(rt.alloc())?;
     let mut shelf = FileShelf::make(rt);
-    match words.as_slice() {
+    time(&rt, &mut shelf, &words)
+}
+
+// Times what the words name, of which the first is the program's own name.
+fn time<R: Print + AllocGlobal + CpuClock, S: Shelf>(
+    rt: &R,
+    shelf: &mut S,
+    words: &[String],
+) -> Result<()> {
+    match words {
         [_] => Ok(()),
-        [_, name] if name.as_str() == "fractions" => timing::run(&rt),
-        [_, name, file] if name.as_str() == "reading" => {
-            reading::run(&rt, &mut shelf, file.as_str())
-        }
-        [_, name, file] if name.as_str() == "runs" => runs::run(&rt, &mut shelf, file.as_str()),
+        [_, name] if name.as_str() == "fractions" => timing::run(rt),
+        [_, name, file] if name.as_str() == "reading" => reading::run(rt, shelf, file.as_str()),
+        [_, name, file] if name.as_str() == "runs" => runs::run(rt, shelf, file.as_str()),
         _ => bail!("the words are `fractions`, `reading FILE` or `runs FILE`"),
     }
 }

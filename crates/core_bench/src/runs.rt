@@ -7,7 +7,7 @@ use crate::file::file_bytes;
 use crate::programme::programme_of;
 use crate::widest::widest_met;
 use anyhow::{Result, bail};
-use core_dict::{Dense, Programme, Store};
+use core_dict::{Dense, Programme, Store, Widen};
 use core_io::Shelf;
 use core_rules::{Cand, Rule};
 use core_run::{End, Ran, run_wide};
@@ -31,7 +31,7 @@ pub fn run<R: Print + AllocGlobal + CpuClock, S: Shelf>(
     rt.println("run,pivots,nanoseconds,bits,num,den")?;
     time_run::<R, Frac64, Dense<Frac64>, _>(rt, &programme, &rule, "64")?;
     time_run::<R, Frac128, Dense<Frac128>, _>(rt, &programme, &rule, "128")?;
-    time_wide(rt, &programme, &rule)
+    time_wide::<R, Dense<Frac64>, Dense<Frac128>, _>(rt, &programme, &rule)
 }
 
 // The run at one width.
@@ -58,18 +58,20 @@ fn time_run<
 }
 
 // The run that begins at 64 bits.
-fn time_wide<'a, R: Print + AllocGlobal + CpuClock, F: Fn(&Cand, &Cand) -> bool>(
-    rt: &R,
-    programme: &Programme,
-    rule: &Rule<'a, F>,
-) -> Result<()>
+fn time_wide<
+    'a,
+    R: Print + AllocGlobal + CpuClock,
+    N: Widen<W>,
+    W: Store<Frac128>,
+    F: Fn(&Cand, &Cand) -> bool,
+>(rt: &R, programme: &Programme, rule: &Rule<'a, F>) -> Result<()>
     requires keeps { Keeps F.pre F.post rule.now }
     requires number { rule_view rule.now ≡ plain_rule 0 }
 {
     let start = rt.thread_cpu_time()?;
-    let ran = run_wide::<Dense<Frac64>, Dense<Frac128>, _>(rt.alloc(), programme, rule, BUDGET);
+    let ran = run_wide::<N, W, F>(rt.alloc(), programme, rule, BUDGET);
     let time = spent(start, rt.thread_cpu_time()?, 0);
-    let bits = widest_met::<Frac128, Dense<Frac128>, F>(rt.alloc(), programme, rule, BUDGET)?;
+    let bits = widest_met::<Frac128, W, F>(rt.alloc(), programme, rule, BUDGET)?;
     match ran {
         Ok(Ran { end, dict }) => report(rt, "64 first", end, time, bits, last_column(&dict)),
         Err(_) => bail!("the run did not end"),

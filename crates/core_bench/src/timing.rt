@@ -1,6 +1,4 @@
 // A million of each operation on fractions.
-ghost use Rattle.std.specs.Prelude.{◌≤◌, ◌^◌};
-
 use crate::clock::spent;
 use anyhow::Result;
 use exact_frac::{Exact, Frac64, Frac128};
@@ -47,12 +45,7 @@ fn report<R: Print + AllocGlobal + CpuClock, E: Exact>(
     kind: &str,
     num: u64,
     den: u64,
-) -> Result<()>
-    requires num_some { 1 ≤ num }
-    requires num_in { num ≤ 2 ^ 61 }
-    requires den_some { 1 ≤ den }
-    requires den_in { den ≤ 2 ^ 61 }
-{
+) -> Result<()> {
     let all = operands::<E>(rt.alloc(), num, den)?;
     for (operation, name) in OPERATIONS {
         let time = time_exact(rt, operation, &all)?;
@@ -62,12 +55,11 @@ fn report<R: Print + AllocGlobal + CpuClock, E: Exact>(
 }
 
 // Fractions of both signs, always the same.
-fn operands<E: Exact>(alloc: Global, num: u64, den: u64) -> std::result::Result<Vec<E>, AllocError>
-    requires num_some { 1 ≤ num }
-    requires num_in { num ≤ 2 ^ 61 }
-    requires den_some { 1 ≤ den }
-    requires den_in { den ≤ 2 ^ 61 }
-{
+fn operands<E: Exact>(
+    alloc: Global,
+    num: u64,
+    den: u64,
+) -> std::result::Result<Vec<E>, AllocError> {
     let mut all = Vec::new(alloc);
     let mut state = 1;
     for _ in 0..OPERANDS {
@@ -86,12 +78,10 @@ fn next(state: u64) -> u64 {
         .wrapping_add(1442695040888963407)
 }
 
-// A whole number from 1 to the bound.
-fn whole<E: Exact>(state: u64, bound: u64) -> E
-    requires some { 1 ≤ bound }
-    requires fits { bound ≤ 2 ^ 61 }
-{
-    E::of_whole(((state >> 2) % bound + 1) as i64)
+// A whole number from 1 to the bound, which is at most 2^61.
+fn whole<E: Exact>(state: u64, bound: u64) -> E {
+    let below = (state >> 2) % bound.max(1);
+    E::of_whole(below.min(1 << 61) as i64 + 1)
 }
 
 // n over d, or n where there is no quotient.
