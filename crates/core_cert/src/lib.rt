@@ -6,6 +6,7 @@ mod fields;
 mod forms;
 mod kinds;
 mod laws;
+mod lists;
 mod names;
 mod read;
 mod record;

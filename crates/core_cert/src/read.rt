@@ -10,7 +10,8 @@ ghost use Rattle.core_cert.specs.declared.read.CertFault.TheVariants.{Bad};
 
 use crate::faults::RecordFault;
 use crate::kinds::RecordKind;
-use crate::names::{CaseNames, NameLists};
+use crate::lists::NameLists;
+use crate::names::CaseNames;
 use crate::state::state_cert;
 use crate::steps::{ends_with, record_fault};
 use core_book::Case;
@@ -99,7 +100,8 @@ fn cert_for(alloc: Global, case: &Case, rows: &[Fields]) -> Result<Cert, CertFau
     cert_among(alloc, &names, rows)
 }
 
-/// Reads the certificate of a case from the bytes of a file. What it answers fits the case, and can be written back: one
+/// Reads the certificate of a case from the bytes of a file: of version 2 where an instrument of the case has more than
+/// one tier, else of version 1. What it answers fits the case, and can be written back: one
 /// that refuses has no scenario weight. The signs, the denominators and what the numbers show are not judged here.
 ///
 /// The records are judged in order, each by the case and the sound ones before it. Where one is faulty the answer is the

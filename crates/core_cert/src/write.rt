@@ -274,8 +274,9 @@ fn put_refusal(
 }
 
 /// The text of a certificate that fits the case: records in one order, each ended by a line feed. A number that is 0
-/// has no record, nor has a scenario's weight where the certificate refuses. The text takes at most 4,194,304 bytes. The
-/// only error is want of memory.
+/// has no record, nor has a scenario's weight where the certificate refuses. Where an instrument of the case has more
+/// than one tier, the version is 2 and amounts and limits name their tier, else it is 1 and they name none. The text
+/// takes at most 4,194,304 bytes. The only error is want of memory.
 pub fn write_cert(alloc: Global, case: &Case, cert: &Cert) -> Result<Vec<u8>, AllocError>
     requires fits { Fits case.now cert.now }
     requires refusing { IsPlainlyRefusing cert.now }

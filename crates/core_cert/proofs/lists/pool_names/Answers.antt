@@ -1,7 +1,7 @@
 use Rattle.std.proofs.Common.{ap, arith}
 use Rattle.core_book.specs.View.{no_pool}
 use Rattle.core_cert.proofs.NamesApart.{one-more-read}
-use Rattle.core_cert.proofs.names.pool_names.Goals as goal
+use Rattle.core_cert.proofs.lists.pool_names.Goals as goal
 
 pub loop-p-preserved : goal.loop-p-preserved
 loop-p-preserved c =

@@ -1,7 +1,7 @@
 use Rattle.std.proofs.Common.{ap, arith}
 use Rattle.core_book.specs.View.{no_instrument}
 use Rattle.core_cert.proofs.NamesApart.{one-more-read}
-use Rattle.core_cert.proofs.names.instrument_names.Goals as goal
+use Rattle.core_cert.proofs.lists.instrument_names.Goals as goal
 
 pub loop-i-preserved : goal.loop-i-preserved
 loop-i-preserved c =
