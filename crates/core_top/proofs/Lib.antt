@@ -1,4 +1,6 @@
 mod OneFuture
+mod OneFutureCalendar
+mod OneFutureWeights
 mod OneFutureShows
 mod FirstForm
 mod OneFutureFits

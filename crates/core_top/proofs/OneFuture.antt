@@ -5,7 +5,7 @@ use Rattle.std.proofs.Math.IntN.{*ℤ-zero, zero-*ℤ}
 use Rattle.core_sums.specs.Sums.{sum_below, sum_days}
 use Rattle.core_sums.proofs.SumLaws.{sum_below-cong, sum_below-single, sum_below-zero}
 use Rattle.core_days.specs.Days.{open_day_before}
-use Rattle.core_book.specs.View.{CaseView, line, instrument_of, cost, price, cash, is_open, day_before}
+use Rattle.core_book.specs.View.{CaseView, line, instrument_of, cost, price, cash, is_open}
 use Rattle.core_book.specs.declared.parts.Kind.{Kind}
 use Rattle.core_book.specs.declared.parts.Kind.TheVariants.{Future}
 use Rattle.core_top.specs.OneFuture.{IsOneFuture, gain}

@@ -1,5 +1,5 @@
 -- The numbers of a book of one future are kept by 64 and 128 bits, and its certificate fits the case.
-use Rattle.std.proofs.Common.{length-set, ◌≡◌, refl, sym, ◌∙◌, ap, subst, ℕ, suc, ◌*◌, ◌^◌, ◌<◌, ◌≤◌, ◌⊎◌, inl, inr, List, [], ◌∷◌, length, get_or, replicate, ℤ, pos, negsuc, neg_ℤ, ◌-ℤ◌, ◌*ℤ◌, ◌≤ℤ◌, arith, Bool, true, false, unsigned_abs, int_lt, if◌then◌else◌, slice_set, lit≤, FitsSigned, w64}
+use Rattle.std.proofs.Common.{length-set, ◌≡◌, refl, sym, ◌∙◌, ap, subst, ℕ, suc, ◌*◌, ◌^◌, ◌<◌, ◌≤◌, ◌⊎◌, inl, inr, List, [], ◌∷◌, length, get_or, replicate, ℤ, pos, negsuc, neg_ℤ, ◌-ℤ◌, ◌*ℤ◌, arith, Bool, true, false, unsigned_abs, int_lt, if◌then◌else◌, slice_set, lit≤, FitsSigned, w64}
 use Rattle.std.proofs.lemmas.Int.{ints, unsigned_abs-mul, fits_signed_from_abs}
 use mir.Syntax.{w128}
 use Rattle.std.proofs.lemmas.Bool.{leb-true}
@@ -15,7 +15,7 @@ use Rattle.core_model.specs.Layout.{amount_count, limit_count}
 use Rattle.core_model.specs.Fits.{IsKept, AreKept, WeightsFit, Fits}
 use Rattle.core_cert.specs.Written.{IsPlainlyRefusing}
 use Rattle.core_model.specs.declared.cert.Cert.TheVariants.{Cannot}
-use Rattle.core_top.proofs.OneFutureShows.{both-true, nat_cases}
+use Rattle.core_top.proofs.OneFutureCalendar.{both-true, nat_cases}
 use Rattle.core_top.specs.OneFuture.{IsOneFuture, change, gain, mark_day, may_close, limit_takes, weights_over_one, no_weight, weight_on, closes_with, one_future_cert}
 use Rattle.core_sums.proofs.Kept.{abs-within}
 
