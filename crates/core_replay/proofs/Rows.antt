@@ -1,5 +1,5 @@
 -- The worked ledgers, and the worked replay that leaves 128 bits.
-use Rattle.std.proofs.Common.{◌≡◌, refl, ◌^◌, pos, negsuc, [], ◌∷◌, map, codes, true, false}
+use Rattle.std.proofs.Common.{◌≡◌, refl, ℕ, List, ◌^◌, pos, negsuc, [], ◌∷◌, map, codes, true, false}
 use Rattle.core_sums.specs.Sums.{sum_below, partial_sums}
 use Rattle.core_sums.specs.Places.{has, least_below, below, days_to, each}
 use Rattle.core_days.specs.Days.{working_dates, open_days, open_day_before}
@@ -10,22 +10,20 @@ use Rattle.core_model.specs.Layout.{plan_of}
 use Rattle.core_model.proofs.WorkedCases.{numbers, dipping, deep, instrument_of, tier_of, one_position}
 use Rattle.core_replay.specs.Ledger.{paid_on, line_flows, day_leaves}
 
-abbrev dipping_plan : Plan
-dipping_plan = plan_of dipping (record { den = pos 1; amounts = numbers (10 ∷ 10 ∷ []) })
+-- a calendar of these numerators over a denominator
+abbrev plan_over : CaseView → ℕ → List ℕ → Plan
+plan_over c den amounts = plan_of c (record { den = pos den; amounts = numbers amounts })
 
-dipping-paid : map (paid_on dipping dipping_plan 0) (0 ∷ 1 ∷ 2 ∷ 3 ∷ []) ≡ pos 0 ∷ pos 0 ∷ negsuc 199 ∷ pos 150 ∷ []
+dipping-paid : map (paid_on dipping (plan_over dipping 1 (10 ∷ 10 ∷ [])) 0) (0 ∷ 1 ∷ 2 ∷ 3 ∷ []) ≡ pos 0 ∷ pos 0 ∷ negsuc 199 ∷ pos 150 ∷ []
 unfolding sum_below has least_below working_dates open_days open_day_before
 dipping-paid = refl
 
-abbrev deep_plan : Plan
-deep_plan = plan_of deep (record { den = pos 1; amounts = numbers (6 ∷ 4 ∷ []) })
-
 -- the mark of ten, and four at a cost of three
-deep-flows : line_flows deep deep_plan 0 0 1 ≡ negsuc 99 ∷ negsuc 11 ∷ []
+deep-flows : line_flows deep (plan_over deep 1 (6 ∷ 4 ∷ [])) 0 0 1 ≡ negsuc 99 ∷ negsuc 11 ∷ []
 unfolding sum_below has least_below working_dates open_days open_day_before days_to
 deep-flows = refl
 
-deep-paid : map (paid_on deep deep_plan 0) (0 ∷ 1 ∷ 2 ∷ []) ≡ pos 0 ∷ pos 0 ∷ negsuc 111 ∷ []
+deep-paid : map (paid_on deep (plan_over deep 1 (6 ∷ 4 ∷ [])) 0) (0 ∷ 1 ∷ 2 ∷ []) ≡ pos 0 ∷ pos 0 ∷ negsuc 111 ∷ []
 unfolding sum_below has least_below working_dates open_days open_day_before
 deep-paid = refl
 
@@ -34,10 +32,7 @@ abbrev swinging : CaseView
 swinging = one_position 2 3 (instrument_of Future 1 0) (tier_of 0 (0 ∷ 10 ∷ []) ∷ []) 10 (codes "SWING" ∷ [])
     ((pos 0 ∷ negsuc 999999999999 ∷ pos 1000000000000 ∷ pos 0 ∷ []) ∷ []) (numbers (0 ∷ 0 ∷ 0 ∷ 0 ∷ []))
 
-abbrev swinging_plan : Plan
-swinging_plan = plan_of swinging (record { den = pos (10 ^ 25); amounts = numbers (0 ∷ 10 ^ 26 ∷ []) })
-
-swinging-days : map (day_leaves swinging swinging_plan 0) (0 ∷ 1 ∷ 2 ∷ 3 ∷ []) ≡ false ∷ false ∷ true ∷ true ∷ []
+swinging-days : map (day_leaves swinging (plan_over swinging (10 ^ 25) (0 ∷ 10 ^ 26 ∷ [])) 0) (0 ∷ 1 ∷ 2 ∷ 3 ∷ []) ≡ false ∷ false ∷ true ∷ true ∷ []
 unfolding sum_below partial_sums has least_below below days_to each working_dates open_days open_day_before
 swinging-days = refl
 
