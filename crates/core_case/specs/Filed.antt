@@ -9,7 +9,7 @@ use Rattle.core_case.specs.declared.register.Group.{Group}
 use Rattle.core_case.specs.declared.register.Register.TheInside.{Inside}
 
 abbrev pub records_in : Inside → List Record
-records_in a = map (λ r. r.now) a.rows.items
+records_in a = map (λ r. r.fields.now) a.rows.items
 
 pub record Holds (same_key : Key → Key → Bool) (same_group : Group → Group → Bool) (a : Inside) (rs : List Record) : Type 0 where
   pub filed_as : (k : Key) → option_map (λ r. r.now) (get same_key a.filed k) ≡ filed k.kind k.first.now k.second.now rs

@@ -1,12 +1,12 @@
 // The sound records that were read so far, filed by their keys.
-ghost use Rattle.std.specs.Prelude.{◌≡◌};
-ghost use Rattle.core_case.specs.Kinds.{most_records};
+ghost use Rattle.std.specs.Prelude.{◌≡◌, true};
+ghost use Rattle.core_case.specs.Kinds.{is_kind, most_records};
 ghost use Rattle.core_case.specs.Faults.{group_of, key_of};
 
 use crate::faults::RecordFault;
 use crate::fields::{has_expiry, is_future, natural_in};
 use crate::heading::Heading;
-use crate::kinds::{RecordKind, is_kind};
+use crate::kinds::RecordKind;
 use core_rows::{Fields, fault_unless, same};
 use indexmap::IndexMap;
 use std::alloc::{AllocError, Global};
@@ -28,10 +28,30 @@ pub(crate) struct Group<'a> {
     pub(crate) name: &'a [u8],
 }
 
+/// A record with its kind.
+#[derive(Clone, Copy)]
+pub(crate) struct Row<'a> {
+    pub(crate) kind: RecordKind,
+    pub(crate) fields: &'a Fields,
+    ghost of_kind: { is_kind kind fields.now ≡ true },
+}
+
+impl<'a> Row<'a> {
+    ghost use Rattle.std.specs.Prelude.{◌≡◌};
+    ghost use Rattle.core_case.specs.Kinds.{is_kind};
+
+    /// Whether the record is of a kind, without its words.
+    pub(crate) fn is_of(&self, kind: RecordKind) -> bool
+        ensures { result ≡ is_kind kind self.now.fields.now }
+    {
+        self.kind == kind
+    }
+}
+
 /// The sound records that were read so far. Contracts see the list of these records.
 #[derive(Drop)]
 pub(crate) struct Register<'a> {
-    pub(crate) rows: Vec<&'a Fields>,
+    pub(crate) rows: Vec<Row<'a>>,
     pub(crate) filed: IndexMap<Key<'a>, &'a Fields>,
     pub(crate) counts: IndexMap<Group<'a>, usize>,
 }
@@ -116,7 +136,7 @@ impl<'a> Register<'a> {
             mut filed,
             mut counts,
         } = self;
-        rows.push(row)?;
+        rows.push(Row { kind, fields: row })?;
         let key = key_of(kind, row);
         if !filed.contains_key(&key) {
             filed.insert(key, row)?;
@@ -132,8 +152,8 @@ impl<'a> Register<'a> {
     }
 
     /// The records, in order.
-    pub(crate) fn rows(&self) -> &[&'a Fields]
-        ensures { map (λ r. r.now) result.now ≡ self.now }
+    pub(crate) fn rows(&self) -> &[Row<'a>]
+        ensures { map (λ r. r.fields.now) result.now ≡ self.now }
     {
         &self.rows
     }
@@ -151,7 +171,7 @@ impl<'a> Register<'a> {
         ensures bound { result < 2 ^ 63 }
     {
         match self.rows.get(place) {
-            Some(row) => natural_in(row, field),
+            Some(row) => natural_in(row.fields, field),
             None => 0,
         }
     }
@@ -172,7 +192,7 @@ impl<'a> Register<'a> {
         requires { 2 ≤ length self.now }
         ensures { result.now ≡ row_at self.now 1 }
     {
-        self.rows[1]
+        self.rows[1].fields
     }
 
     /// The first record of a kind with this key.
@@ -303,8 +323,8 @@ impl<'a> Register<'a> {
         ensures { result ≡ list_all (has_path self.now scenario.now) (of_kind Instrument self.now) }
     {
         for row in &self.rows {
-            if is_kind(RecordKind::Instrument, row)
-                && !self.has(RecordKind::Path, scenario.word(1), row.word(1))
+            if row.is_of(RecordKind::Instrument)
+                && !self.has(RecordKind::Path, scenario.word(1), row.fields.word(1))
             {
                 return false;
             }
@@ -319,7 +339,7 @@ impl<'a> Register<'a> {
             (of_kind Scenario self.now) }
     {
         for row in &self.rows {
-            if is_kind(RecordKind::Scenario, row) && !self.has_paths(row) {
+            if row.is_of(RecordKind::Scenario) && !self.has_paths(row.fields) {
                 return false;
             }
         }
@@ -331,8 +351,8 @@ impl<'a> Register<'a> {
         ensures { result ≡ list_all (has_limit self.now) (of_kind Instrument self.now) }
     {
         for row in &self.rows {
-            if is_kind(RecordKind::Instrument, row)
-                && !self.has(RecordKind::Limit, row.word(1), b"")
+            if row.is_of(RecordKind::Instrument)
+                && !self.has(RecordKind::Limit, row.fields.word(1), b"")
             {
                 return false;
             }
@@ -345,7 +365,7 @@ impl<'a> Register<'a> {
         ensures { result ≡ nat_lt 0 (length (of_kind Scenario self.now)) }
     {
         for row in &self.rows {
-            if is_kind(RecordKind::Scenario, row) {
+            if row.is_of(RecordKind::Scenario) {
                 return true;
             }
         }

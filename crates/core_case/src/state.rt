@@ -13,7 +13,7 @@ ghost use Rattle.core_case.specs.Whole.{IsWhole};
 
 use crate::fields::{day_in, is_future, natural_in, number_in};
 use crate::kinds::{RecordKind, is_kind};
-use crate::register::Register;
+use crate::register::{Register, Row};
 use core_book::{Book, Instr, Kind, Line, Member, Pool, Side, Tier};
 use core_rows::{Fields, Name, name_of, same};
 use indexmap::IndexSet;
@@ -23,30 +23,30 @@ use std::alloc::{AllocError, Global};
 /// The records of a kind, in order.
 fn of_kind<'a>(
     alloc: Global,
-    rows: &[&'a Fields],
+    rows: &[Row<'a>],
     kind: RecordKind,
 ) -> Result<Vec<&'a Fields>, AllocError>
     ensures { IfOk result (λ v.
-        map (λ r. r.now) v.items ≡ of_kind kind (map (λ r. r.now) rows.now)) }
+        map (λ r. r.now) v.items ≡ of_kind kind (map (λ r. r.fields.now) rows.now)) }
 {
     let mut found = Vec::new(alloc);
     for row in rows {
-        if is_kind(kind, row) {
-            found.push(*row)?;
+        if row.is_of(kind) {
+            found.push(row.fields)?;
         }
     }
     Ok(found)
 }
 
 /// The records of positions and of collateral, in order.
-fn line_records<'a>(alloc: Global, rows: &[&'a Fields]) -> Result<Vec<&'a Fields>, AllocError>
+fn line_records<'a>(alloc: Global, rows: &[Row<'a>]) -> Result<Vec<&'a Fields>, AllocError>
     ensures { IfOk result (λ v.
-        map (λ r. r.now) v.items ≡ line_records (map (λ r. r.now) rows.now)) }
+        map (λ r. r.now) v.items ≡ line_records (map (λ r. r.fields.now) rows.now)) }
 {
     let mut found = Vec::new(alloc);
     for row in rows {
-        if is_kind(RecordKind::Position, row) || is_kind(RecordKind::Collateral, row) {
-            found.push(*row)?;
+        if row.is_of(RecordKind::Position) || row.is_of(RecordKind::Collateral) {
+            found.push(row.fields)?;
         }
     }
     Ok(found)
@@ -98,7 +98,7 @@ fn place_of(names: &NameNumbers, name: &[u8]) -> usize
 fn numbers_from(alloc: Global, row: &Fields, first: usize) -> Result<Vec<i64>, AllocError>
     ensures { IfOk result (λ v. v.items ≡ numbers_from first row.now) }
 {
-    let mut numbers = Vec::new(alloc);
+    let mut numbers = Vec::with_capacity(alloc, row.len().saturating_sub(first))?;
     for i in first..row.len() {
         numbers.push(number_in(row, i))?;
     }

@@ -20,15 +20,15 @@ overflow_add-count c =
     c.unwrap_or-count.ensures ∙ ap (λ o. unwrap_or o 0) (c.copied.ensures ∙ c.get.ensures.value) in
     let counted : c.unwrap_or-count.result ≡ counted_in c.group_of-group.result rs = is ∙ c.self.invariant.counted c.group_of-group.result in
     let most : counted_in c.group_of-group.result rs ≤ length rs = counted-most c.group_of-group.result rs in
-    let long : length rs ≡ length c.self.inside.rows.items = length-map c.self.inside.rows.items (λ r. r.now) in
+    let long : length rs ≡ length c.self.inside.rows.items = length-map c.self.inside.rows.items (λ r. r.fields.now) in
     omega arith
 
 -- the rows with one more are filed under its key, and counted in its group
 pub invariant_of-result : goal.invariant_of-result
 invariant_of-result c =
     let rs : List Record = records_in c.self.inside in
-    let pushed : map (λ r. r.now) c.push.new.self.items ≡ rs ++ (c.args.row.now ∷ []) =
-    ap (map (λ r. r.now)) c.in_ok-push.ensures.items ∙ map-append (λ r. r.now) c.self.inside.rows.items (c.args.row ∷ []) in
+    let pushed : map (λ r. r.fields.now) c.push.new.self.items ≡ rs ++ (c.args.row.now ∷ []) =
+    ap (map (λ r. r.fields.now)) c.in_ok-push.ensures.items ∙ map-append (λ r. r.fields.now) c.self.inside.rows.items _ in
     let keyed : IsKeyOf c.args.kind c.args.row.now c.key_of-key.result =
     record { kind_is = c.key_of-key.ensures.kind; first_is = c.key_of-key.ensures.first; second_is = c.key_of-key.ensures.second } in
     let grouped : IsGroupOf c.args.kind c.args.row.now c.group_of-group.result =
