@@ -1,5 +1,5 @@
 -- The terms of the bound of the weights, part by part, and the tests of it.
-use Rattle.std.proofs.Common.{◌≡◌, sym, ◌∙◌, ap, ℕ, suc, ◌*◌, ℤ, pos, ◌*ℤ◌, neg_ℤ, int_lt, Bool, List, [], ◌∷◌, ◌++◌, length, Some, None, append_assoc}
+use Rattle.std.proofs.Common.{◌≡◌, sym, ◌∙◌, ap, ℕ, ℤ, pos, ◌*ℤ◌, neg_ℤ, int_lt, Bool, List, [], ◌∷◌, ◌++◌, length, Some, None, append_assoc}
 use Rattle.std.specs.Ordering.{int_eq}
 use Rattle.core_sums.specs.Sums.{total}
 use Rattle.core_sums.specs.Places.{at, below, each}

@@ -1,11 +1,11 @@
 -- The terms of the cash of a scenario on a day: the steps that add them up, without the amounts that are 0, and all of them.
-use Rattle.std.proofs.Common.{◌≡◌, refl, sym, ◌∙◌, ap, ℕ, ◌*◌, inl, inr, arith, ℤ, pos, ◌-ℤ◌, ◌*ℤ◌, neg_ℤ, int_le, nat_eq, to_z, of_z, FitsSigned, Bool, true, false, List, [], ◌∷◌, length, map, filter, if◌then◌else◌, Option, Some, None}
+use Rattle.std.proofs.Common.{◌≡◌, refl, sym, ◌∙◌, ap, ℕ, inl, inr, arith, ℤ, pos, ◌-ℤ◌, ◌*ℤ◌, neg_ℤ, int_le, nat_eq, to_z, of_z, FitsSigned, Bool, true, false, List, [], ◌∷◌, if◌then◌else◌, Option, Some, None}
 use Rattle.std.proofs.lemmas.Int.{ints, to_z-of_z}
 use Rattle.std.proofs.Math.IntN.{zero-*ℤ}
 use Rattle.std.proofs.lemmas.Bool.Decides.{Decides-int_eq, Decides-eqb, Decides-like, same_from_decides}
 use Rattle.std.specs.Ordering.{int_eq}
 use mir.Syntax.{w128}
-use Rattle.core_sums.specs.Places.{below, days_to, each}
+use Rattle.core_sums.specs.Places.{below, each}
 use Rattle.core_book.specs.View.{CaseView, tiers, is_allowed}
 use Rattle.core_model.specs.Closing.{Plan, line_count, fixed}
 use Rattle.core_model.specs.Bounds.{unit}

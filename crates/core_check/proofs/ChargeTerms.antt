@@ -1,5 +1,5 @@
 -- The terms of the charge of a closing, part by part, and the tests of it.
-use Rattle.std.proofs.Common.{◌≡◌, sym, ◌∙◌, ap, ℕ, suc, ◌+◌, ◌-◌, ◌*◌, subst, Bool, ℤ, pos, ◌*ℤ◌, neg_ℤ, true, false, ◌==◌, int_le, List, [], ◌∷◌, ◌++◌, length, map, if◌then◌else◌, Option, Some, None}
+use Rattle.std.proofs.Common.{◌≡◌, sym, ◌∙◌, ap, ℕ, subst, Bool, ℤ, pos, ◌*ℤ◌, neg_ℤ, true, false, ◌==◌, int_le, List, [], ◌∷◌, ◌++◌, length, map, if◌then◌else◌, Option, Some, None}
 use Rattle.std.proofs.lemmas.Bool.{ne_eqb}
 use Rattle.core_sums.specs.Sums.{total}
 use Rattle.core_sums.specs.Places.{at, below, each}

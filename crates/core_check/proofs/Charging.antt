@@ -1,6 +1,6 @@
 -- What the weights charge the closings of an admissible calendar is at most what they charge its limits, caps
 -- and amounts.
-use Rattle.std.proofs.Common.{◌≡◌, refl, sym, ◌∙◌, ap, ℕ, suc, ◌-◌, ◌<◌, ◌≤◌, ◌⊎◌, inl, inr, [], ℤ, pos, ◌+ℤ◌, ◌-ℤ◌, ◌*ℤ◌, neg_ℤ, ◌≤ℤ◌, arith, Bool, true, false, if◌then◌else◌, length, ◌==◌}
+use Rattle.std.proofs.Common.{◌≡◌, refl, sym, ◌∙◌, ap, ℕ, ◌-◌, ◌<◌, ◌≤◌, ◌⊎◌, inl, inr, ℤ, pos, ◌+ℤ◌, ◌-ℤ◌, ◌*ℤ◌, neg_ℤ, ◌≤ℤ◌, arith, Bool, true, false, if◌then◌else◌, length, ◌==◌}
 use Rattle.std.proofs.lemmas.Int.{ints}
 use Rattle.std.proofs.lemmas.Bool.{cases_lt}
 use Rattle.std.proofs.lemmas.List.{get_or_past}
@@ -11,7 +11,7 @@ use Rattle.core_sums.proofs.Ring.{*ℤ-distr_left, *ℤ-distr_right, *ℤ_assoc,
 use Rattle.core_sums.proofs.SumLaws.{sum_below-cong, sum_below-scale, sum_below-swap, sum_below-le}
 use Rattle.core_sums.proofs.Order.{times-le, times-nonneg, sum_below-grouped}
 use Rattle.core_sums.proofs.Grids.{sum_grid-cong, sum_grid-le, sum_grid-plus, sum_grid-scale}
-use Rattle.core_book.specs.View.{CaseView, line, instrument_of, tier, tiers, tiers_of, limit, counts, no_line, no_tier}
+use Rattle.core_book.specs.View.{CaseView, line, instrument_of, tiers, tiers_of, limit, counts, no_line, no_tier}
 use Rattle.core_book.specs.Kept.{IsCase}
 use Rattle.core_book.specs.declared.parts.Side.{Side}
 use Rattle.core_book.specs.declared.parts.Side.TheVariants.{Position, Collateral}

@@ -1,5 +1,5 @@
 -- Weak duality: the bound of weights is at most the weighted losses of an admissible calendar.
-use Rattle.std.proofs.Common.{◌≡◌, sym, ◌∙◌, ap, ℕ, suc, ℤ, pos, ◌+ℤ◌, ◌-ℤ◌, ◌*ℤ◌, ◌≤ℤ◌, arith, if◌then◌else◌, length}
+use Rattle.std.proofs.Common.{◌≡◌, sym, ◌∙◌, ap, ℕ, suc, ℤ, ◌-ℤ◌, ◌*ℤ◌, ◌≤ℤ◌, arith, length}
 use Rattle.std.proofs.lemmas.Int.{ints}
 use Rattle.core_sums.specs.Sums.{sum_below, sum_days, sum_grid}
 use Rattle.core_sums.proofs.SumLaws.{sum_below-cong}

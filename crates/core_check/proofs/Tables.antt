@@ -1,5 +1,5 @@
 -- The lists of the check by place, and what stands at the place of a cell.
-use Rattle.std.proofs.Common.{◌≡◌, sym, ◌∙◌, ap, ℕ, suc, ◌+◌, ◌*◌, ◌%◌, ◌/◌, ◌++◌, ◌≤◌, arith, length, map}
+use Rattle.std.proofs.Common.{◌≡◌, sym, ◌∙◌, ap, ℕ, suc, ◌+◌, ◌*◌, ◌++◌, ◌≤◌, arith, length, map}
 use Rattle.std.proofs.Math.Nat.{mul-le-mul}
 use Rattle.core_sums.specs.Places.{below}
 use Rattle.core_sums.proofs.Joined.{each-none, each-below-more}

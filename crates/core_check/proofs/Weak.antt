@@ -1,17 +1,16 @@
 -- Weak duality, and that weights that refuse show that no calendar is admissible.
-use Rattle.std.proofs.Common.{◌≡◌, sym, ◌∙◌, ap, suc, ℤ, pos, ◌+ℤ◌, ◌-ℤ◌, ◌*ℤ◌, neg_ℤ, ◌≤ℤ◌, ◌<ℤ◌, arith, length}
+use Rattle.std.proofs.Common.{◌≡◌, ◌∙◌, ap, suc, ℤ, pos, ◌+ℤ◌, ◌-ℤ◌, ◌*ℤ◌, neg_ℤ, ◌≤ℤ◌, ◌<ℤ◌, arith, length}
 use Rattle.std.proofs.lemmas.Int.{ints}
 use Rattle.std.proofs.Math.IntN.{*ℤ_comm, zero-*ℤ}
 use Rattle.core_sums.specs.Sums.{sum_below, sum_grid}
 use Rattle.core_sums.proofs.Ring.{*ℤ-distr_left, *ℤ-distr_right, *ℤ-middle, *ℤ-pos_one, neg-*ℤ, *ℤ-neg}
-use Rattle.core_sums.proofs.SumLaws.{sum_below-cong, sum_below-swap}
 use Rattle.core_sums.proofs.Order.{times-le}
-use Rattle.core_sums.proofs.Grids.{sum_grid-cong, sum_grid-le, sum_grid-plus, sum_grid-scale, sum_grid-zero}
-use Rattle.core_book.specs.View.{CaseView, line, member, pool, limit, no_member}
+use Rattle.core_sums.proofs.Grids.{sum_grid-cong, sum_grid-plus, sum_grid-scale, sum_grid-zero}
+use Rattle.core_book.specs.View.{CaseView, line, pool, limit}
 use Rattle.core_book.specs.Kept.{IsCase}
 use Rattle.core_model.specs.declared.cert.Weights.{Weights}
-use Rattle.core_model.specs.Closing.{Plan, line_count, IsAdmissible, closed_of, pooled, fixed, cash_of, loss_of, CannotClose}
-use Rattle.core_model.specs.Bounds.{pool_charge, AreWeights, AreRefusing, sum_losses, sum_limits, sum_pools, bound}
+use Rattle.core_model.specs.Closing.{Plan, line_count, IsAdmissible, fixed, cash_of, loss_of, CannotClose}
+use Rattle.core_model.specs.Bounds.{AreWeights, AreRefusing, sum_losses, sum_limits, sum_pools, bound}
 use Rattle.core_flows.specs.Laws.{paid_units}
 use Rattle.core_flows.proofs.CashLaw.{cash_by_units}
 use Rattle.core_check.proofs.Duality.{weighted_paid, weighted_paid-le}

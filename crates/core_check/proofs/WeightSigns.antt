@@ -1,5 +1,5 @@
 -- The signs of the weights, numbered through, and the sum of the scenario weights.
-use Rattle.std.proofs.Common.{◌≡◌, sym, ◌∙◌, ap, ℕ, suc, ◌+◌, ◌*◌, ◌≤◌, arith, ℤ, pos, int_le, List, [], ◌∷◌, ◌++◌, length, map, Option, Ok, Err}
+use Rattle.std.proofs.Common.{◌≡◌, sym, ◌∙◌, ap, ℕ, suc, ◌+◌, ◌≤◌, arith, ℤ, pos, int_le, List, [], ◌∷◌, ◌++◌, length, map, Option, Ok, Err}
 use Rattle.std.proofs.lemmas.List.{length-append, length-map}
 use Rattle.std.proofs.Math.Nat.{mul-le-mul}
 use Rattle.core_sums.specs.Places.{at, below, each}

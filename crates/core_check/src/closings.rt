@@ -64,13 +64,7 @@ pub(crate) fn check_allowed(case: &Case, calendar: &Calendar) -> Result<(), Chec
 }
 
 /// The sum and what is closed of a line at a place of its days and tiers.
-fn plus_closed(
-    case: &Case,
-    calendar: &Calendar,
-    l: usize,
-    sum: i128,
-    place: usize,
-) -> Option<i128>
+fn plus_closed(case: &Case, calendar: &Calendar, l: usize, sum: i128, place: usize) -> Option<i128>
     requires kept { IsCase case.now }
     requires fits { CalendarFits case.now calendar.now }
     requires line { l < line_count case.now }

@@ -85,7 +85,11 @@ fn check_closes(
     }
     check_calendar(case, flows, calendar, loss)?;
     check_weights(case, flows, weights, weights.den)?;
-    judge_place(Condition::Bound, 1, meets(case, flows, weights, calendar.den, loss))
+    judge_place(
+        Condition::Bound,
+        1,
+        meets(case, flows, weights, calendar.den, loss),
+    )
 }
 
 /// The conditions of weights that refuse every calendar.

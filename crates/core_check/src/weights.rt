@@ -53,9 +53,12 @@ pub(crate) fn check_weight_signs(case: &Case, weights: &Weights) -> Result<(), C
     check_not_negative(0, &weights.scenario)?;
     check_not_negative(scenarios, &weights.limit)?;
     check_not_negative(scenarios + limits, &weights.pool)?;
-    check_each(Condition::WeightSigns, 1 + scenarios + limits + pools, case.lines(), |l| {
-        Some(has_full_sign(case, weights, l))
-    })
+    check_each(
+        Condition::WeightSigns,
+        1 + scenarios + limits + pools,
+        case.lines(),
+        |l| { Some(has_full_sign(case, weights, l)) },
+    )
 }
 
 /// Whether the scenario weights have a sum, or None where a sum leaves.

@@ -1,4 +1,4 @@
-use Rattle.std.proofs.Common.{◌≡◌, rules, sym, ◌∙◌, ap, ℕ, ℤ, ◌*ℤ◌, pos, FitsSigned, of_z, true, false}
+use Rattle.std.proofs.Common.{◌≡◌, rules, sym, ◌∙◌, ap, ℤ, ◌*ℤ◌, pos, FitsSigned, of_z, true, false}
 use mir.Syntax.{w128}
 use Rattle.std.proofs.lemmas.Int.{to_z-of_z}
 use Rattle.core_book.specs.View.{is_allowed}

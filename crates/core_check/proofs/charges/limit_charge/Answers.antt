@@ -1,4 +1,4 @@
-use Rattle.std.proofs.Common.{rules, ◌≡◌, sym, ◌∙◌, ap, true, false, Some, None, FitsSigned}
+use Rattle.std.proofs.Common.{rules, ◌≡◌, sym, ◌∙◌, ap, true, Some, None, FitsSigned}
 use mir.Syntax.{w128}
 use Rattle.std.proofs.lemmas.Int.{to_z-of_z}
 use Rattle.core_book.specs.View.{counts}

@@ -1,4 +1,4 @@
-use Rattle.std.proofs.Common.{◌≡◌, rules, arith, sym, ◌∙◌, ap, ℕ, ℤ, Bool, pos, ◌||◌, map}
+use Rattle.std.proofs.Common.{◌≡◌, rules, arith, sym, ◌∙◌, ap, ℕ, Bool, pos, ◌||◌, map}
 use Rattle.std.specs.Ordering.{int_eq}
 use Rattle.core_sums.specs.Places.{at, below}
 use Rattle.core_book.specs.View.{is_allowed}

@@ -1,4 +1,4 @@
-use Rattle.std.proofs.Common.{◌≡◌, rules, sym, ◌∙◌, ap, subst, ◌*ℤ◌, [], int_le, true, false, FitsSigned, w64}
+use Rattle.std.proofs.Common.{◌≡◌, rules, sym, ◌∙◌, subst, ◌*ℤ◌, [], int_le, FitsSigned, w64}
 use mir.Syntax.{w128}
 use Rattle.std.proofs.lemmas.Int.{to_z-of_z}
 use Rattle.core_book.specs.View.{limit, counts}

@@ -1,4 +1,4 @@
-use Rattle.std.proofs.Common.{◌∙◌, ap}
+use Rattle.std.proofs.Common.{◌∙◌}
 use Rattle.core_model.specs.Layout.{plan_of}
 use Rattle.core_model.specs.Check.{limit_test}
 use Rattle.core_check.specs.Steps.{judged}

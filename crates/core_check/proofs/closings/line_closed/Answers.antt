@@ -1,4 +1,4 @@
-use Rattle.std.proofs.Common.{◌≡◌, rules, sym, ◌∙◌, ap, ℕ, ◌*◌, pos, [], ◌∷◌}
+use Rattle.std.proofs.Common.{rules, sym, ◌∙◌, ap, ℕ, ◌*◌, pos, [], ◌∷◌}
 use Rattle.core_sums.specs.Places.{each, below}
 use Rattle.core_book.specs.View.{tiers}
 use Rattle.core_model.specs.Layout.{plan_of, day_at_place, tier_at_place}
