@@ -45,7 +45,8 @@ is_follower refusing (Some kind) r = list_any (λ x. is_kind x r) (followers ref
 
 abbrev pub order_step : List Record → Record → Option RecordFault
 order_step [] r = None
-order_step (x ∷ xs) r = fault_unless (is_follower (is_refusing (x ∷ xs)) (kind_of (last_record (x ∷ xs))) r) OutOfOrder
+order_step (x ∷ xs) r =
+    fault_unless (is_follower (is_refusing (x ∷ xs)) (kind_of (last_record (x ∷ xs))) r) OutOfOrder
 
 -- step 4: the number of fields, then step 5: the form of each field, from left to right
 abbrev pub is_side_word : List ℕ → Bool
@@ -92,7 +93,9 @@ name_step c _ r = None
 
 -- step 8: the instrument has a line of the side
 abbrev pub is_line_of : CaseView → Record → ℕ → Bool
-is_line_of c r l = bytes_eq (field r 1) (instrument c (instrument_of c l)).name && bytes_eq (field r 2) (side_word (line c l).side)
+is_line_of c r l =
+    bytes_eq (field r 1) (instrument c (instrument_of c l)).name
+    && bytes_eq (field r 2) (side_word (line c l).side)
 
 -- the line of a record, their number where there is none
 abbrev pub line_named : CaseView → Record → ℕ
@@ -118,19 +121,22 @@ tier_in c r n = if is_tiered c then small_in r n else 1
 abbrev pub place_in : CaseView → RecordKind → Record → ℕ
 place_in c Amount r = closing_place c (line_named c r) (small_in r 3) (tier_in c r 4)
 place_in c Scenario r = scenario_place c (place_of (field r 1) c.scenarios) (small_in r 2)
-place_in c Limit r = closing_place c (place_of (field r 1) (instrument_names c)) (small_in r 2) (tier_in c r 3)
+place_in c Limit r =
+    closing_place c (place_of (field r 1) (instrument_names c)) (small_in r 2) (tier_in c r 3)
 place_in c Pool r = pool_place c (place_of (field r 1) (pool_names c)) (small_in r 2)
 place_in c Full r = line_named c r
 place_in c _ r = 0
 
 abbrev pub key_step : CaseView → List Record → RecordKind → Record → Option RecordFault
 key_step c earlier kind r =
-    fault_unless (not (is_kind kind (last_record earlier)) || nat_lt (place_in c kind (last_record earlier)) (place_in c kind r)) NotRising
+    let before : Record = last_record earlier in
+    fault_unless (not (is_kind kind before) || nat_lt (place_in c kind before) (place_in c kind r)) NotRising
 
 -- step 10: the margin is the loss before it, floored at nought
 abbrev pub margin_step : List Record → RecordKind → Record → Option RecordFault
 margin_step earlier Margin r =
-    fault_unless (int_eq (number_in (field r 1)) (floored (number_in (field (last_record earlier) 1)))) NotTheMargin
+    let loss : ℤ = number_in (field (last_record earlier) 1) in
+    fault_unless (int_eq (number_in (field r 1)) (floored loss)) NotTheMargin
 margin_step earlier _ r = None
 
 -- the steps on the fields of a record alone
@@ -139,7 +145,13 @@ fields_fault fs r = Steps.fields_fault FieldCount form_fault range_fault fs r
 
 -- the steps on a record for a case, after the records before it
 abbrev pub case_fault : CaseView → List Record → RecordKind → Record → Option RecordFault
-case_fault c earlier kind r = first_of (name_step c kind r ∷ line_step c kind r ∷ key_step c earlier kind r ∷ margin_step earlier kind r ∷ [])
+case_fault c earlier kind r =
+    first_of
+    (name_step c kind r
+    ∷ line_step c kind r
+    ∷ key_step c earlier kind r
+    ∷ margin_step earlier kind r
+    ∷ [])
 
 -- the steps of a record of a known kind
 abbrev pub later_fault : CaseView → List Record → Record → Option RecordKind → Option RecordFault
@@ -149,7 +161,8 @@ later_fault c earlier r (Some kind) =
 
 -- the fault of a record, none of a sound one
 abbrev pub fault_of : CaseView → List Record → Record → Option RecordFault
-fault_of c earlier r = first_of (end_before earlier ∷ kind_step (length earlier) r ∷ later_fault c earlier r (kind_of r) ∷ [])
+fault_of c earlier r =
+    first_of (end_before earlier ∷ kind_step (length earlier) r ∷ later_fault c earlier r (kind_of r) ∷ [])
 
 -- A faulty record by its number, from 1, and its fault.
 abbrev pub Faulty : Type 0
@@ -158,12 +171,16 @@ Faulty = ℕ × RecordFault
 -- the fault where no record is left: the last one is not `end`
 abbrev pub missing_end : List Record → Option Faulty
 missing_end [] = Some (1, FirstNotCert)
-missing_end (r ∷ rs) = if is_kind End (last_record (r ∷ rs)) then None else Some (suc (length (r ∷ rs)), EndMissing)
+missing_end (r ∷ rs) =
+    if is_kind End (last_record (r ∷ rs)) then None else Some (suc (length (r ∷ rs)), EndMissing)
 
 -- the first fault of the records, where these came before
 unfoldable pub first_fault_after : CaseView → List Record → List Record → Option Faulty
 first_fault_after c earlier [] = missing_end earlier
-first_fault_after c earlier (r ∷ rs) = elim (fault_of c earlier r) [ Some fault ↦ Some (suc (length earlier), fault) | None ↦ first_fault_after c (earlier ++ (r ∷ [])) rs ]
+first_fault_after c earlier (r ∷ rs) = elim (fault_of c earlier r) [
+  | Some fault ↦ Some (suc (length earlier), fault)
+  | None ↦ first_fault_after c (earlier ++ (r ∷ [])) rs
+]
 
 abbrev pub first_fault : CaseView → List Record → Option Faulty
 first_fault c rs = first_fault_after c [] rs

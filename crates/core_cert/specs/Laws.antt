@@ -9,4 +9,6 @@ use Rattle.core_cert.specs.Stated.{cert_of_bytes}
 
 -- The text of a certificate that fits its case is read as this certificate.
 abbrev pub CertTextsRead : Type 0
-CertTextsRead = (c : CaseView) (cert : Cert) → IsCase c → Fits c cert → IsPlainlyRefusing cert → cert_of_bytes c (cert_text c cert) ≡ Ok cert
+CertTextsRead =
+    (c : CaseView) (cert : Cert) → IsCase c → Fits c cert → IsPlainlyRefusing cert
+    → cert_of_bytes c (cert_text c cert) ≡ Ok cert

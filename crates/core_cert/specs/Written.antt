@@ -133,7 +133,10 @@ constraint_records c w = limit_records c w ++ pool_records c w ++ full_records c
 abbrev pub closing_records : CaseView → Plan → ℤ → Weights → List Record
 closing_records c a loss w =
     word_record (codes "closes") a.den ∷ (amount_records c a
-    ++ (word_record (codes "loss") loss ∷ word_record (codes "margin") (floored loss) ∷ word_record (codes "weights") w.den ∷ [])
+    ++ (word_record (codes "loss") loss
+    ∷ word_record (codes "margin") (floored loss)
+    ∷ word_record (codes "weights") w.den
+    ∷ [])
     ++ scenario_records c w ++ constraint_records c w)
 
 abbrev pub refusing_records : CaseView → Weights → List Record
