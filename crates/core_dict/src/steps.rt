@@ -67,7 +67,7 @@ fn own_entries<E: Exact>(before: &[E], col: usize, after: &mut [E]) -> Result<()
 }
 
 // An entry of another row, or of the costs, afterwards, where `turned` is the one in the pivot's
-// column. Most entries of the pivot's own row are 0, and they cost no call here.
+// column.
 fn other_entry<E: Exact>(
     before: &[E],
     own: &[E],
@@ -87,9 +87,6 @@ fn other_entry<E: Exact>(
 {
     if j == col {
         return Ok(turned);
-    }
-    if is_zero(own[j]) {
-        return Ok(before[j]);
     }
     less_times(before[j], before[col], own[j])
 }
