@@ -1,7 +1,6 @@
 // The condition on the bound that the weights give.
 ghost use Rattle.std.specs.Prelude.{◌≡◌, ◌*ℤ◌, neg_ℤ, ◌<◌, ◌≤ℤ◌, pos, length};
 ghost use Rattle.core_sums.specs.Places.{at};
-ghost use Rattle.core_book.specs.Kept.{IsCase};
 ghost use Rattle.core_book.specs.View.{limit, line, pool};
 ghost use Rattle.core_model.specs.Closing.{fixed, line_count};
 ghost use Rattle.core_model.specs.Layout.{day_at_place, house_day_at_place, pool_at_place, row_at_place, tier_at_place};
@@ -25,7 +24,6 @@ fn minus_fixed(
     sum: i128,
     place: usize,
 ) -> Option<i128>
-    requires kept { IsCase case.now }
     requires flows { flows.now ≡ case.now }
     requires fits { WeightsFit case.now weights.now }
     requires place { place < length weights.now.scenario }
@@ -43,7 +41,6 @@ fn minus_fixed(
 
 /// The sum and the full weight of a line times its amount.
 fn plus_full(case: &Case, weights: &Weights, sum: i128, l: usize) -> Option<i128>
-    requires kept { IsCase case.now }
     requires fits { WeightsFit case.now weights.now }
     requires line { l < line_count case.now }
     ensures { result ≡ with_product sum (at weights.now.full l *ℤ (line case.now l).amount) }
@@ -57,7 +54,6 @@ fn plus_full(case: &Case, weights: &Weights, sum: i128, l: usize) -> Option<i128
 
 /// The sum less the weight of a limit times the limit. A weight of 0 costs only a look.
 fn minus_limit(case: &Case, weights: &Weights, sum: i128, place: usize) -> Option<i128>
-    requires kept { IsCase case.now }
     requires fits { WeightsFit case.now weights.now }
     requires place { place < length weights.now.limit }
     ensures { result ≡ with_product sum (neg_ℤ
@@ -75,7 +71,6 @@ fn minus_limit(case: &Case, weights: &Weights, sum: i128, place: usize) -> Optio
 
 /// The sum less the weight of a cap times the cap. A weight of 0 costs only a look.
 fn minus_cap(case: &Case, weights: &Weights, sum: i128, place: usize) -> Option<i128>
-    requires kept { IsCase case.now }
     requires fits { WeightsFit case.now weights.now }
     requires place { place < length weights.now.pool }
     ensures { result ≡ with_product sum
@@ -91,7 +86,6 @@ fn minus_cap(case: &Case, weights: &Weights, sum: i128, place: usize) -> Option<
 
 /// The bound of the weights, as a numerator over their denominator, or None where a number leaves.
 fn bound(case: &Case, flows: &Flows, weights: &Weights) -> Option<i128>
-    requires kept { IsCase case.now }
     requires flows { flows.now ≡ case.now }
     requires fits { WeightsFit case.now weights.now }
     ensures { result ≡ summed (pos 0)
@@ -122,7 +116,6 @@ pub(crate) fn meets(
     den: i128,
     loss: i128,
 ) -> Option<bool>
-    requires kept { IsCase case.now }
     requires flows { flows.now ≡ case.now }
     requires fits { WeightsFit case.now weights.now }
     requires loss { IsKept loss }
@@ -136,7 +129,6 @@ pub(crate) fn meets(
 
 /// Whether the bound is above 0, or None where a number leaves.
 pub(crate) fn refuses(case: &Case, flows: &Flows, weights: &Weights) -> Option<bool>
-    requires kept { IsCase case.now }
     requires flows { flows.now ≡ case.now }
     requires fits { WeightsFit case.now weights.now }
     ensures { result ≡ judged (refuses_test case.now weights.now) }

@@ -2,7 +2,6 @@
 ghost use Rattle.std.specs.Prelude.{◌≡◌, ◌<◌, ◌≤◌, ◌++◌, ◌∷◌, [], pos, neg_ℤ, length};
 ghost use Rattle.std.specs.Ordering.{int_eq};
 ghost use Rattle.core_sums.specs.Sums.{total};
-ghost use Rattle.core_book.specs.Kept.{IsCase};
 ghost use Rattle.core_model.specs.Layout.{house_day_at_place, plan_of, scenario_at_place, scenario_count};
 ghost use Rattle.core_model.specs.Fits.{CalendarFits, IsKept};
 ghost use Rattle.core_model.specs.Check.{by_scenario_and_day, cash_terms, loss_test, places_of, reached_test};
@@ -28,7 +27,6 @@ fn plus_closing(
     sum: i128,
     place: usize,
 ) -> Option<i128>
-    requires kept { IsCase case.now }
     requires flows { flows.now ≡ case.now }
     requires fits { CalendarFits case.now calendar.now }
     requires scenario { on.row < length case.now.scenarios }
@@ -55,7 +53,6 @@ fn plus_closing(
 
 /// The cash of a scenario on a house day, as a numerator, or None where a number leaves.
 fn cash(case: &Case, flows: &Flows, calendar: &Calendar, on: DayCell) -> Option<i128>
-    requires kept { IsCase case.now }
     requires flows { flows.now ≡ case.now }
     requires fits { CalendarFits case.now calendar.now }
     requires scenario { on.row < length case.now.scenarios }
@@ -78,7 +75,6 @@ fn is_covered(
     loss: i128,
     place: usize,
 ) -> Option<bool>
-    requires kept { IsCase case.now }
     requires flows { flows.now ≡ case.now }
     requires fits { CalendarFits case.now calendar.now }
     requires loss { IsKept loss }
@@ -94,7 +90,6 @@ fn is_covered(
 
 /// Whether the loss of a scenario on a day is the calendar's, where no number of it leaves.
 fn is_reached_at(case: &Case, flows: &Flows, calendar: &Calendar, loss: i128, place: usize) -> bool
-    requires kept { IsCase case.now }
     requires flows { flows.now ≡ case.now }
     requires fits { CalendarFits case.now calendar.now }
     requires loss { IsKept loss }
@@ -113,7 +108,6 @@ fn is_reached_at(case: &Case, flows: &Flows, calendar: &Calendar, loss: i128, pl
 
 /// Whether the loss of some scenario on some day is the calendar's, where no number of them leaves.
 fn is_reached(case: &Case, flows: &Flows, calendar: &Calendar, loss: i128) -> bool
-    requires kept { IsCase case.now }
     requires flows { flows.now ≡ case.now }
     requires fits { CalendarFits case.now calendar.now }
     requires loss { IsKept loss }
@@ -137,7 +131,6 @@ fn check_covered(
     calendar: &Calendar,
     loss: i128,
 ) -> Result<(), CheckFault>
-    requires kept { IsCase case.now }
     requires flows { flows.now ≡ case.now }
     requires fits { CalendarFits case.now calendar.now }
     requires loss { IsKept loss }
@@ -158,7 +151,6 @@ pub(crate) fn check_loss(
     calendar: &Calendar,
     loss: i128,
 ) -> Result<(), CheckFault>
-    requires kept { IsCase case.now }
     requires flows { flows.now ≡ case.now }
     requires fits { CalendarFits case.now calendar.now }
     requires loss { IsKept loss }

@@ -53,7 +53,6 @@ fn minus_unit(
     sum: i128,
     place: usize,
 ) -> Option<i128>
-    requires kept { IsCase case.now }
     requires flows { flows.now ≡ case.now }
     requires fits { WeightsFit case.now weights.now }
     requires line { cell.row < line_count case.now }
@@ -142,7 +141,8 @@ fn is_charged_at(case: &Case, flows: &Flows, weights: &Weights, place: usize) ->
     requires fits { WeightsFit case.now weights.now }
     requires place { place < amount_count case.now }
     ensures { result ≡ judged (charge_test case.now weights.now
-        (row_at_place case.now place) (day_at_place case.now place) (tier_at_place case.now place)) }
+        (row_at_place case.now place) (day_at_place case.now place)
+        (tier_at_place case.now place)) }
 {
     is_charged(
         case,
@@ -154,7 +154,6 @@ fn is_charged_at(case: &Case, flows: &Flows, weights: &Weights, place: usize) ->
 
 /// Whether each allowed closing is charged at least the full weight of its line.
 pub(crate) fn check_charges(case: &Case, flows: &Flows, weights: &Weights) -> Result<(), CheckFault>
-    requires kept { IsCase case.now }
     requires flows { flows.now ≡ case.now }
     requires fits { WeightsFit case.now weights.now }
     ensures { result ≡ answer

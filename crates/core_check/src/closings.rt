@@ -25,7 +25,8 @@ pub(crate) fn check_signs(case: &Case, calendar: &Calendar) -> Result<(), CheckF
     requires kept { IsCase case.now }
     requires fits { CalendarFits case.now calendar.now }
     ensures { result ≡ answer
-        (places_of AmountSigns 1 (by_closing case.now (sign_test (plan_of case.now calendar.now)))) }
+        (places_of AmountSigns 1 (by_closing case.now
+        (sign_test (plan_of case.now calendar.now)))) }
 {
     let amounts = &calendar.amounts;
     check_each(Condition::AmountSigns, 1, amounts.len(), |place| {
@@ -35,7 +36,6 @@ pub(crate) fn check_signs(case: &Case, calendar: &Calendar) -> Result<(), CheckF
 
 /// Whether an amount is 0 where its closing is not allowed.
 fn is_allowed(case: &Case, calendar: &Calendar, place: usize) -> bool
-    requires kept { IsCase case.now }
     requires fits { CalendarFits case.now calendar.now }
     requires place { place < length calendar.now.amounts }
     ensures { result ≡ (is_allowed case.now
@@ -65,7 +65,6 @@ pub(crate) fn check_allowed(case: &Case, calendar: &Calendar) -> Result<(), Chec
 
 /// The sum and what is closed of a line at a place of its days and tiers.
 fn plus_closed(case: &Case, calendar: &Calendar, l: usize, sum: i128, place: usize) -> Option<i128>
-    requires kept { IsCase case.now }
     requires fits { CalendarFits case.now calendar.now }
     requires line { l < line_count case.now }
     requires place { place < case.now.horizon * tiers case.now }
@@ -78,7 +77,6 @@ fn plus_closed(case: &Case, calendar: &Calendar, l: usize, sum: i128, place: usi
 
 /// What is closed of a line over all days and tiers, or None where a sum leaves.
 fn line_closed(case: &Case, calendar: &Calendar, l: usize) -> Option<i128>
-    requires kept { IsCase case.now }
     requires fits { CalendarFits case.now calendar.now }
     requires line { l < line_count case.now }
     ensures { result ≡ summed (pos 0) []
@@ -102,7 +100,6 @@ fn closes(side: Side, closed: i128, whole: i128) -> bool
 
 /// Whether a line is closed as its side asks, or None where a number leaves.
 fn is_closed(case: &Case, calendar: &Calendar, l: usize) -> Option<bool>
-    requires kept { IsCase case.now }
     requires fits { CalendarFits case.now calendar.now }
     requires line { l < line_count case.now }
     ensures { result ≡ judged (full_test case.now (plan_of case.now calendar.now) l) }
@@ -185,11 +182,11 @@ fn is_within_limit(case: &Case, calendar: &Calendar, cell: ClosingCell) -> Optio
 
 /// The same at a place.
 fn is_within_limit_at(case: &Case, calendar: &Calendar, place: usize) -> Option<bool>
-    requires kept { IsCase case.now }
     requires fits { CalendarFits case.now calendar.now }
     requires place { place < limit_count case.now }
     ensures { result ≡ judged (limit_test case.now (plan_of case.now calendar.now)
-        (row_at_place case.now place) (day_at_place case.now place) (tier_at_place case.now place)) }
+        (row_at_place case.now place) (day_at_place case.now place)
+        (tier_at_place case.now place)) }
 {
     is_within_limit(
         case,
@@ -200,7 +197,6 @@ fn is_within_limit_at(case: &Case, calendar: &Calendar, place: usize) -> Option<
 
 /// Whether the closings of each instrument are within its limits on each day in each tier.
 pub(crate) fn check_limits(case: &Case, calendar: &Calendar) -> Result<(), CheckFault>
-    requires kept { IsCase case.now }
     requires fits { CalendarFits case.now calendar.now }
     ensures { result ≡ answer
         (places_of Limits 1 (by_limit case.now

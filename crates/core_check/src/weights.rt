@@ -30,7 +30,6 @@ fn check_not_negative(before: u32, weights: &Numbers) -> Result<(), CheckFault>
 
 /// Whether the full weight of a line is at most 0, where the line is collateral.
 fn has_full_sign(case: &Case, weights: &Weights, l: usize) -> bool
-    requires kept { IsCase case.now }
     requires fits { WeightsFit case.now weights.now }
     requires line { l < line_count case.now }
     ensures { result ≡ (full_sign case.now weights.now l).holds }
@@ -63,7 +62,6 @@ pub(crate) fn check_weight_signs(case: &Case, weights: &Weights) -> Result<(), C
 
 /// Whether the scenario weights have a sum, or None where a sum leaves.
 pub(crate) fn have_sum(case: &Case, weights: &Weights, sum: i128) -> Option<bool>
-    requires kept { IsCase case.now }
     requires fits { WeightsFit case.now weights.now }
     ensures { result ≡ judged (sum_test case.now weights.now sum) }
 {

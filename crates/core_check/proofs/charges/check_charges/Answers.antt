@@ -12,14 +12,14 @@ use Rattle.core_check.proofs.charges.check_charges.Goals as goal
 pub overflow_mul-days : goal.overflow_mul-days
 overflow_mul-days c =
     let case = c.args.case.now in
-    let few = line_days-few case c.requires.kept in
+    let few = line_days-few case c.horizon.ensures.kept in
     let same = places-counted c.lines.result c.from.result (length case.lines) case.horizon c.lines.ensures (c.from.ensures ∙ c.horizon.ensures.value) in
     search (arith, few, same)
 
 pub overflow_mul-count : goal.overflow_mul-count
 overflow_mul-count c =
     let case = c.args.case.now in
-    let few = closings-few case c.requires.kept in
+    let few = closings-few case c.horizon.ensures.kept in
     let same = tier_places-counted c.lines.result c.from.result c.from-2.result (length case.lines) case.horizon (tiers case)
     c.lines.ensures (c.from.ensures ∙ c.horizon.ensures.value) (c.from-2.ensures ∙ c.tiers.ensures) in
     search (arith, few, same)
@@ -27,7 +27,7 @@ overflow_mul-count c =
 pub check_each-requires-clause-room : goal.check_each-requires-clause-room
 check_each-requires-clause-room c =
     let case = c.args.case.now in
-    let few = closings-few case c.requires.kept in
+    let few = closings-few case c.horizon.ensures.kept in
     let same = tier_places-counted c.lines.result c.from.result c.from-2.result (length case.lines) case.horizon (tiers case)
     c.lines.ensures (c.from.ensures ∙ c.horizon.ensures.value) (c.from-2.ensures ∙ c.tiers.ensures) in
     omega (arith, few, same)
