@@ -327,42 +327,53 @@ fn allowed_tiers(case: &Case, l: usize) -> [[bool; 3]; 3] {
     found
 }
 
-#[test]
-fn tiers_and_expiries_stand_where_the_records_put_them(rt: HostRuntime) -> Result<(), Fail> {
-    let (no, yes) = (false, true);
-    let case = read_case(rt.alloc(), DEEP.as_bytes())?;
-    assert!(rt; case.instruments() == 2 && case.horizon() == 3);
+fn check_tiers(rt: &impl Abort, case: &Case) {
+    assert!(rt; case.instruments() == 2);
     assert_eq!(rt;
         (case.tiers(), case.tiers_of(0), case.tiers_of(1)),
         (2, 2, 1)
     );
     assert_eq!(rt;
-        (case.instrument(0).expiry, case.instrument(1).expiry),
-        (2, 0)
-    );
-    assert_eq!(rt;
         (case.cost(0, 1), case.cost(0, 2), case.cost(1, 2)),
         (0, 3, 0)
     );
+}
+
+fn check_tier_limits(rt: &impl Abort, case: &Case) {
+    assert!(rt; case.instruments() == 2);
+    assert!(rt; case.horizon() == 3);
+    assert_eq!(rt; case.limit(0, 2, 1), 7);
+    assert_eq!(rt; case.limit(0, 3, 2), 12);
+    assert_eq!(rt; case.limit(1, 3, 2), 0);
+}
+
+fn check_expiries(rt: &impl Abort, case: &Case) {
+    assert!(rt; case.instruments() == 2);
     assert_eq!(rt;
-        (
-            case.limit(0, 2, 1),
-            case.limit(0, 3, 2),
-            case.limit(1, 3, 2)
-        ),
-        (7, 12, 0)
+        (case.instrument(0).expiry, case.instrument(1).expiry),
+        (2, 0)
     );
+    assert!(rt; case.counts(0, 1) && !case.counts(0, 2) && case.counts(1, 2));
+}
+
+fn check_open_tiers(rt: &impl Abort, case: &Case) {
+    let (no, yes) = (false, true);
     assert_eq!(rt;
-        (case.counts(0, 1), case.counts(0, 2), case.counts(1, 2)),
-        (yes, no, yes)
-    );
-    assert_eq!(rt;
-        allowed_tiers(&case, 0),
+        allowed_tiers(case, 0),
         [[yes, yes, no], [yes, no, no], [no, no, no]]
     );
     assert_eq!(rt;
-        allowed_tiers(&case, 1),
+        allowed_tiers(case, 1),
         [[no, no, no], [no, no, no], [yes, no, no]]
     );
+}
+
+#[test]
+fn tiers_and_expiries_stand_where_the_records_put_them(rt: HostRuntime) -> Result<(), Fail> {
+    let case = read_case(rt.alloc(), DEEP.as_bytes())?;
+    check_tiers(&rt, &case);
+    check_tier_limits(&rt, &case);
+    check_expiries(&rt, &case);
+    check_open_tiers(&rt, &case);
     Ok(())
 }
