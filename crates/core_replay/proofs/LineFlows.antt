@@ -5,10 +5,10 @@ use Rattle.std.proofs.Math.IntN.{*ℤ-zero, zero-*ℤ}
 use Rattle.std.proofs.lemmas.Bool.{le-leb, lt-leb}
 use Rattle.std.proofs.lemmas.Bool.Decides.{Decides-int_eq}
 use Rattle.std.specs.Ordering.{int_eq}
-use Rattle.std.proofs.lemmas.List.{map-append}
+use Rattle.std.proofs.lemmas.Simd.{map-map}
 use Rattle.core_sums.specs.Widths.{any_leaves}
-use Rattle.core_sums.specs.Places.{days_to}
-use Rattle.core_sums.proofs.Lists.{total-append}
+use Rattle.core_sums.specs.Places.{below, days_to}
+use Rattle.core_sums.proofs.Lists.{total-below, days_to-below}
 use Rattle.core_sums.proofs.Leaving.{none-append, none-one, left-leaves, right-leaves, first-leaves}
 use Rattle.core_wide.proofs.Stepping.{numbers-summed}
 use Rattle.core_replay.specs.Ledger.{closings, sold_by, closing_numbers, is_costly}
@@ -17,7 +17,7 @@ use Rattle.core_sums.specs.Sums.{sum_below, sum_days, total, partial_sums}
 use Rattle.core_book.specs.View.{CaseView, line, instrument_of, tiers, cost, is_open, day_before}
 use Rattle.core_book.specs.declared.parts.Kind.{Kind}
 use Rattle.core_book.specs.declared.parts.Kind.TheVariants.{Future, Security}
-use Rattle.core_model.specs.Closing.{Plan, kind_of, size, price_of, closed_on, still_open, flow_by, flow, cost_flow}
+use Rattle.core_model.specs.Closing.{Plan, sum_tiers, kind_of, size, price_of, closed_on, still_open, flow_by, flow, cost_flow}
 use Rattle.core_wide.specs.Steps.{Leaves, Stays, summed}
 use Rattle.core_replay.specs.Steps.{unit_by, unit_of, base_by, base_of}
 
@@ -93,15 +93,10 @@ still_open-after c a l t past =
 
 -- ---- sums over the tiers of a day
 
--- the total over the days 1 to n is their sum
-pub total-days : (n : ℕ) (f : ℕ → ℤ) → total (map f (days_to n)) ≡ sum_days n f
-unfolding days_to total sum_below
-total-days zero f = refl
-total-days (suc n) f =
-    let parts = total-append (map f (days_to n)) (f (suc n) ∷ []) in
-    let rest = total-days n f in
-    let one : total (f (suc n) ∷ []) ≡ f (suc n) = omega (arith, ints) in
-    ap total (map-append f (days_to n) (suc n ∷ [])) ∙ omega (arith, ints, parts, rest, one)
+-- the total over the tiers is their sum
+pub tiers-total : (c : CaseView) (f : ℕ → ℤ) → total (map f (days_to (tiers c))) ≡ sum_tiers c f
+tiers-total c f =
+    ap (λ zs. total (map f zs)) (days_to-below (tiers c)) ∙ ap total (map-map f suc (below (tiers c))) ∙ total-below (tiers c) (λ j. f (suc j))
 
 -- what is taken is what is added with the other sign
 total-neg : (xs : List ℤ) → total (map neg_ℤ xs) ≡ neg_ℤ (total xs)
@@ -110,7 +105,7 @@ total-neg [] = refl
 total-neg (x ∷ xs) = let rest = total-neg xs in omega (arith, ints, rest)
 
 closed-total : (c : CaseView) (a : Plan) (l t : ℕ) → total (closings c a l t) ≡ closed_on c a l t
-closed-total c a l t = total-days (tiers c) (a.amount l t)
+closed-total c a l t = tiers-total c (a.amount l t)
 
 -- ---- what is sold
 

@@ -1,5 +1,5 @@
 -- The worked ledgers, and the worked replay that leaves 128 bits.
-use Rattle.std.proofs.Common.{◌≡◌, refl, ℕ, List, ◌^◌, pos, negsuc, [], ◌∷◌, map, codes, true, false}
+use Rattle.std.proofs.Common.{◌≡◌, refl, ℤ, List, ◌^◌, pos, negsuc, [], ◌∷◌, map, codes, true, false}
 use Rattle.core_sums.specs.Sums.{sum_below, partial_sums}
 use Rattle.core_sums.specs.Places.{has, least_below, below, days_to, each}
 use Rattle.core_days.specs.Days.{working_dates, open_days, open_day_before}
@@ -11,19 +11,19 @@ use Rattle.core_model.proofs.WorkedCases.{numbers, dipping, deep, instrument_of,
 use Rattle.core_replay.specs.Ledger.{paid_on, line_flows, day_leaves}
 
 -- a calendar of these numerators over a denominator
-abbrev plan_over : CaseView → ℕ → List ℕ → Plan
-plan_over c den amounts = plan_of c (record { den = pos den; amounts = numbers amounts })
+abbrev plan_over : CaseView → ℤ → List ℤ → Plan
+plan_over c den amounts = plan_of c (record { den = den; amounts = amounts })
 
-dipping-paid : map (paid_on dipping (plan_over dipping 1 (10 ∷ 10 ∷ [])) 0) (0 ∷ 1 ∷ 2 ∷ 3 ∷ []) ≡ pos 0 ∷ pos 0 ∷ negsuc 199 ∷ pos 150 ∷ []
+dipping-paid : map (paid_on dipping (plan_over dipping (pos 1) (numbers (10 ∷ 10 ∷ []))) 0) (0 ∷ 1 ∷ 2 ∷ 3 ∷ []) ≡ pos 0 ∷ pos 0 ∷ negsuc 199 ∷ pos 150 ∷ []
 unfolding sum_below has least_below working_dates open_days open_day_before
 dipping-paid = refl
 
 -- the mark of ten, and four at a cost of three
-deep-flows : line_flows deep (plan_over deep 1 (6 ∷ 4 ∷ [])) 0 0 1 ≡ negsuc 99 ∷ negsuc 11 ∷ []
+deep-flows : line_flows deep (plan_over deep (pos 1) (numbers (6 ∷ 4 ∷ []))) 0 0 1 ≡ negsuc 99 ∷ negsuc 11 ∷ []
 unfolding sum_below has least_below working_dates open_days open_day_before days_to
 deep-flows = refl
 
-deep-paid : map (paid_on deep (plan_over deep 1 (6 ∷ 4 ∷ [])) 0) (0 ∷ 1 ∷ 2 ∷ []) ≡ pos 0 ∷ pos 0 ∷ negsuc 111 ∷ []
+deep-paid : map (paid_on deep (plan_over deep (pos 1) (numbers (6 ∷ 4 ∷ []))) 0) (0 ∷ 1 ∷ 2 ∷ []) ≡ pos 0 ∷ pos 0 ∷ negsuc 111 ∷ []
 unfolding sum_below has least_below working_dates open_days open_day_before
 deep-paid = refl
 
@@ -32,7 +32,7 @@ abbrev swinging : CaseView
 swinging = one_position 2 3 (instrument_of Future 1 0) (tier_of 0 (0 ∷ 10 ∷ []) ∷ []) 10 (codes "SWING" ∷ [])
     ((pos 0 ∷ negsuc 999999999999 ∷ pos 1000000000000 ∷ pos 0 ∷ []) ∷ []) (numbers (0 ∷ 0 ∷ 0 ∷ 0 ∷ []))
 
-swinging-days : map (day_leaves swinging (plan_over swinging (10 ^ 25) (0 ∷ 10 ^ 26 ∷ [])) 0) (0 ∷ 1 ∷ 2 ∷ 3 ∷ []) ≡ false ∷ false ∷ true ∷ true ∷ []
+swinging-days : map (day_leaves swinging (plan_over swinging (pos (10 ^ 25)) (numbers (0 ∷ 10 ^ 26 ∷ []))) 0) (0 ∷ 1 ∷ 2 ∷ 3 ∷ []) ≡ false ∷ false ∷ true ∷ true ∷ []
 unfolding sum_below partial_sums has least_below below days_to each working_dates open_days open_day_before
 swinging-days = refl
 
@@ -41,12 +41,6 @@ abbrev standing : CaseView
 standing = one_position 1 2 (instrument_of Future 1 0) (tier_of 0 (10 ∷ []) ∷ tier_of 0 (10 ∷ []) ∷ []) 10
     (codes "FLAT" ∷ []) (numbers (100 ∷ 100 ∷ 100 ∷ []) ∷ []) (numbers (0 ∷ 0 ∷ 0 ∷ []))
 
-abbrev standing_plan : Plan
-standing_plan = plan_of standing (record {
-  den = pos 1;
-  amounts = negsuc 170141183460469231731687303715884105726 ∷ pos 170141183460469231731687303715884105727 ∷ [];
-})
-
-standing-days : map (day_leaves standing standing_plan 0) (0 ∷ 1 ∷ 2 ∷ []) ≡ false ∷ true ∷ false ∷ []
+standing-days : map (day_leaves standing (plan_over standing (pos 1) (negsuc 170141183460469231731687303715884105726 ∷ pos 170141183460469231731687303715884105727 ∷ [])) 0) (0 ∷ 1 ∷ 2 ∷ []) ≡ false ∷ true ∷ false ∷ []
 unfolding sum_below partial_sums has least_below below days_to each working_dates open_days open_day_before
 standing-days = refl

@@ -13,7 +13,7 @@ use Rattle.core_wide.specs.Steps.{Leaves, Stays}
 use Rattle.core_replay.specs.Steps.{sum_numbers}
 use Rattle.core_sums.proofs.Joined.{each-days_to-more}
 use Rattle.core_sums.proofs.Leaving.{none-append, none-cons, none-one, left-leaves, right-leaves, rest-leaves, first-leaves}
-use Rattle.core_replay.proofs.LineFlows.{total-days, not-costly}
+use Rattle.core_replay.proofs.LineFlows.{tiers-total, not-costly}
 use Rattle.core_replay.proofs.Dues.{pays-within, flows_until-none}
 
 -- the flow of a line on a day where it is paid on day t, else nought
@@ -31,7 +31,7 @@ costly-only c a l v j = by_test (is_costly c (instrument_of c l) j) refl
 costs-total : (c : CaseView) (a : Plan) (l v : ℕ) → total (map (cost_flow c a l v) (costly_tiers c (instrument_of c l))) ≡ sum_tiers c (cost_flow c a l v)
 costs-total c a l v =
     total-filter (is_costly c (instrument_of c l)) (cost_flow c a l v) (days_to (tiers c))
-    ∙ total-days (tiers c) (λ j. if is_costly c (instrument_of c l) j then cost_flow c a l v j else pos 0)
+    ∙ tiers-total c (λ j. if is_costly c (instrument_of c l) j then cost_flow c a l v j else pos 0)
     ∙ sum_below-cong (tiers c) (λ j. if is_costly c (instrument_of c l) (suc j) then cost_flow c a l v (suc j) else pos 0) (λ j. cost_flow c a l v (suc j))
     (λ j under. costly-only c a l v (suc j))
 
