@@ -1,0 +1,15 @@
+mod Alls
+mod Totals
+mod Sums
+mod Closings
+mod DayNought
+mod Ranges
+mod Holding
+mod Calendars
+mod Beside
+mod Ranks
+mod Walks
+mod Pools
+mod Filling
+mod Naming
+mod Letters

@@ -1,0 +1,6 @@
+pub mod CaseProgramme
+pub mod Named
+pub mod Known
+pub mod ByName
+pub mod Ranks
+pub mod Laws
