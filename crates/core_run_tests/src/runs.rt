@@ -26,7 +26,7 @@ const TWO_SCENARIOS: [([i64; 3], i64); 10] = [
 ];
 
 /// Rows whose first pivot leaves 64 bits.
-pub const LEAVES_64: [([i64; 3], i64); 2] = [
+pub(crate) const LEAVES_64: [([i64; 3], i64); 2] = [
     ([-10000000, -1, 0], -1),
     ([-1, -1000000000000, 0], -1),
 ];
@@ -45,14 +45,14 @@ const LEAVES_128: [([i64; 3], i64); 6] = [
 ];
 
 /// Rows near the greatest number of 64 bits.
-pub const NEAR_62: [([i64; 4], i64); 3] = [
+pub(crate) const NEAR_62: [([i64; 4], i64); 3] = [
     ([-2305843009213693952, 0, 0, 0], -1),
     ([0, -2305843009213693951, 0, 0], -1),
     ([0, 0, -2305843009213693953, 0], -1),
 ];
 
 /// The programme of some rows with their bounds.
-pub fn programme<const N: usize>(
+pub(crate) fn programme<const N: usize>(
     rt: &impl Abort,
     alloc: Global,
     rows: &[([i64; N], i64)],
@@ -73,7 +73,7 @@ pub fn programme<const N: usize>(
 }
 
 /// The start dictionary of a programme.
-pub fn started<E: Exact, D: Store<E>>(alloc: Global, programme: &Programme) -> Result<D, AllocError>
+pub(crate) fn started<E: Exact, D: Store<E>>(alloc: Global, programme: &Programme) -> Result<D, AllocError>
     ensures { IfOk result (λ d. CostsNotNegative (D.dictionary d)) }
 {
     let dict = D::start(alloc, programme)?;
