@@ -73,7 +73,10 @@ pub(crate) fn programme<const N: usize>(
 }
 
 /// The start dictionary of a programme.
-pub(crate) fn started<E: Exact, D: Store<E>>(alloc: Global, programme: &Programme) -> Result<D, AllocError>
+pub(crate) fn started<E: Exact, D: Store<E>>(
+    alloc: Global,
+    programme: &Programme,
+) -> Result<D, AllocError>
     ensures { IfOk result (λ d. CostsNotNegative (D.dictionary d)) }
 {
     let dict = D::start(alloc, programme)?;
