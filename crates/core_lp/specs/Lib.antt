@@ -2,5 +2,6 @@ pub mod CaseProgramme
 pub mod Named
 pub mod Known
 pub mod ByName
+pub mod Placing
 pub mod Ranks
 pub mod Laws

@@ -2,8 +2,10 @@
 #![tactic(auto)]
 
 ghost use Rattle.core_lp.specs.Laws.{CalendarsAreProgramme, NumeratorsAreCalendars, AsNumberedIsLeast};
+ghost use Rattle.core_lp.specs.Laws.{BestIsValid, NoSolutionIsValid};
 
 mod built;
+mod certificate;
 mod columns;
 mod names;
 mod numbers;
@@ -12,6 +14,7 @@ mod rows;
 mod weights;
 
 pub use built::{Built, build};
+pub use certificate::{Parts, cert_of};
 pub use names::{Col, RowName};
 pub use orders::{ranks_of, variables};
 
@@ -25,4 +28,14 @@ pub fn programme_laws()
 /// Under the order of ranks in which the variables are numbered the choice is that of the least variable.
 pub fn rank_law()
     ensures { AsNumberedIsLeast }
+{}
+
+/// The certificate of a last dictionary of a case's programme, whose numbers stand over their least common denominators,
+/// shows what it states, and holds in every condition of the check: of a dictionary without a negative cost or value the
+/// least calendar with its loss and weights, and of a row that cannot hold weights that refuse (Farkas 1902).
+pub fn certificate_law()
+    requires best { BestIsValid }
+    requires no_solution { NoSolutionIsValid }
+    ensures best { BestIsValid }
+    ensures no_solution { NoSolutionIsValid }
 {}
