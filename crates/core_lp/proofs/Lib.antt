@@ -13,3 +13,4 @@ mod Pools
 mod Filling
 mod Naming
 mod Letters
+mod RowNumbers
