@@ -11,7 +11,7 @@ use Rattle.core_model.specs.Closing.{line_count, ClosesAsAllowed}
 use Rattle.core_lp.specs.declared.names.Col.{Col}
 use Rattle.core_lp.specs.declared.names.Col.TheVariants as col
 use Rattle.core_lp.specs.CaseProgramme.{columns, line_columns, day_columns, number_at}
-use Rattle.core_lp.specs.ByName.{same_col, beside, plan_by}
+use Rattle.core_lp.specs.ByName.{same_col, beside, of_column, plan_by}
 use Rattle.core_lp.specs.Laws.{IsByPlan}
 use Rattle.core_lp.proofs.Alls.{AllOf, AllOf-append, AllOf-map, AllOf-each, AllOf-filter, AllOf-below}
 use Rattle.core_lp.proofs.Alls.{AllOf-days, AllOf-imply}
@@ -206,6 +206,14 @@ module _ (c : CaseView) where
 
       first : length (columns c) - 1 - length (each (below (line_count c)) (line_columns c)) ≡ 0
       first = let e = size in omega (arith, e)
+
+  -- and its number that of the last place
+  pub loss-number : (x : ℕ → ℤ) → of_column c x col.Loss ≡ x (length (columns c) - 1)
+  loss-number x =
+      let size = length-append (each (below (line_count c)) (line_columns c)) (col.Loss ∷ []) in
+      ap (λ y. beside same_col y (columns c) x) (sym last_column)
+      ∙ beside-at same_col (columns c) (length (columns c) - 1) col.Loss x same_col-self column_pairs
+      (omega (arith, size))
 
   -- what the calendar of numerators and the last of them give a column
   pub by_plan : (d : ℤ) (x : ℕ → ℤ) → IsByPlan c d x

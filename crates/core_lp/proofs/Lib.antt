@@ -14,3 +14,10 @@ mod Filling
 mod Naming
 mod Letters
 mod RowNumbers
+mod Numerators
+mod ByNames
+mod ByPlace
+mod BasicSolution
+mod Duals
+mod Refusals
+mod Best
