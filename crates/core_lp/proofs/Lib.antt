@@ -14,3 +14,7 @@ mod Filling
 mod Naming
 mod Letters
 mod RowNumbers
+mod RowSums
+mod Placed
+mod ColumnParts
+mod Charged
