@@ -106,9 +106,9 @@ module _ (c : CaseView) (den : ℤ) (scenario : ℕ → ℕ → ℤ) (y : ℕ �
       (pool-placed c den scenario y (member c m).pool u (member-kept c m sound k).pool day))
       ∙ sym (by_member c (λ p. of_row c y (row.Pool p u)) i sound)
 
-  pub charge-is : (l u j : ℕ) → IsCase c → AreOfLosses c y scenario → IsClosing c l u j
+  pub placed-charge : (l u j : ℕ) → IsCase c → AreOfLosses c y scenario → IsClosing c l u j
       → over_rows c y (λ name. close_entry c name l u j) ≡ charge c w l u j -ℤ full_weight w l
-  charge-is l u j sound later place =
+  placed-charge l u j sound later place =
       joined (over_rows c y (λ name. close_entry c name l u j))
       (sum_below (line_count c) (λ m. of_row c y (row.Full m) *ℤ close_entry c (row.Full m) l u j))
       (sum_backs c (λ m. of_row c y (row.Back m) *ℤ close_entry c (row.Back m) l u j))
@@ -168,9 +168,9 @@ module _ (c : CaseView) (den : ℤ) (scenario : ℕ → ℕ → ℤ) (y : ℕ �
       joined over a b d e f charges full none paid losses p q r s t z = omega (arith, ints, p, q, r, s, t, z)
 
   -- ---- the bound
-  pub bound-is : AreOfLosses c y scenario
+  pub placed-bound : AreOfLosses c y scenario
       → bound c w ≡ neg_ℤ (over_rows c y (bound_of c)) -ℤ ((all_first c scenario +ℤ all_losses c y) *ℤ fixed c 0)
-  bound-is later =
+  placed-bound later =
       joined (over_rows c y (bound_of c))
       (sum_below (line_count c) (λ l. of_row c y (row.Full l) *ℤ (line c l).amount))
       (sum_backs c (λ l. of_row c y (row.Back l) *ℤ neg_ℤ (line c l).amount))

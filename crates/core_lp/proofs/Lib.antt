@@ -18,3 +18,4 @@ mod RowSums
 mod Placed
 mod ColumnParts
 mod Charged
+mod RowWeights
