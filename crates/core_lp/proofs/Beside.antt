@@ -17,21 +17,21 @@ use Rattle.core_lp.proofs.Alls.{AllOf, AllOf-append, AllOf-map, AllOf-each, AllO
 use Rattle.core_lp.proofs.Alls.{AllOf-days, AllOf-imply}
 
 -- ---- lists in which R holds of each two in their order
-abbrev Pairs : {A : Type 0} → (A → A → Type 0) → List A → Type 0
+abbrev pub Pairs : {A : Type 0} → (A → A → Type 0) → List A → Type 0
 Pairs R [] = Unit {0}
 Pairs R (x ∷ xs) = AllOf (R x) xs × Pairs R xs
 
-Pairs-append : {A : Type 0} (R : A → A → Type 0) (xs ys : List A) → Pairs R xs → Pairs R ys
+pub Pairs-append : {A : Type 0} (R : A → A → Type 0) (xs ys : List A) → Pairs R xs → Pairs R ys
     → AllOf (λ x. AllOf (R x) ys) xs → Pairs R (xs ++ ys)
 Pairs-append R [] ys h k m = k
 Pairs-append R (x ∷ xs) ys h k m = ((AllOf-append (R x) xs ys).1 (h.0, m.0), Pairs-append R xs ys h.1 k m.1)
 
-Pairs-map : {A B : Type 0} (R : B → B → Type 0) (f : A → B) (xs : List A) → Pairs (λ x y. R (f x) (f y)) xs
+pub Pairs-map : {A B : Type 0} (R : B → B → Type 0) (f : A → B) (xs : List A) → Pairs (λ x y. R (f x) (f y)) xs
     → Pairs R (map f xs)
 Pairs-map R f [] h = h
 Pairs-map R f (x ∷ xs) h = ((AllOf-map (R (f x)) f xs).1 h.0, Pairs-map R f xs h.1)
 
-Pairs-filter : {A : Type 0} (R : A → A → Type 0) (p : A → Bool) (xs : List A) → Pairs R xs
+pub Pairs-filter : {A : Type 0} (R : A → A → Type 0) (p : A → Bool) (xs : List A) → Pairs R xs
     → Pairs R (filter p xs)
 Pairs-filter R p [] h = h
 Pairs-filter R p (x ∷ xs) h = by (p x) (Pairs-filter R p xs h.1)
@@ -53,7 +53,7 @@ joined R f (z ∷ zs) xs h = (
       (λ y k. k.1) h),
 )
 
-Pairs-each : {A B : Type 0} (R : B → B → Type 0) (xs : List A) (f : A → List B)
+pub Pairs-each : {A B : Type 0} (R : B → B → Type 0) (xs : List A) (f : A → List B)
     → Pairs (λ x y. AllOf (λ z. AllOf (R z) (f y)) (f x)) xs → AllOf (λ x. Pairs R (f x)) xs
     → Pairs R (each xs f)
 unfolding each
@@ -61,14 +61,14 @@ Pairs-each R [] f h k = h
 Pairs-each R (x ∷ xs) f h k =
     Pairs-append R (f x) (each xs f) k.0 (Pairs-each R xs f h.1 k.1) (joined R f (f x) xs h.0)
 
-Pairs-below : (R : ℕ → ℕ → Type 0) (n : ℕ) → ((i j : ℕ) → i < j → R i j) → Pairs R (below n)
+pub Pairs-below : (R : ℕ → ℕ → Type 0) (n : ℕ) → ((i j : ℕ) → i < j → R i j) → Pairs R (below n)
 unfolding below
 Pairs-below R zero h = tt
 Pairs-below R (suc n) h =
     Pairs-append R (below n) (n ∷ []) (Pairs-below R n h) (tt, tt)
     ((AllOf-below (λ i. AllOf (R i) (n ∷ [])) n).1 (λ i l. (h i n l, tt)))
 
-Pairs-days : (R : ℕ → ℕ → Type 0) (n : ℕ) → ((u w : ℕ) → u < w → R u w) → Pairs R (days_to n)
+pub Pairs-days : (R : ℕ → ℕ → Type 0) (n : ℕ) → ((u w : ℕ) → u < w → R u w) → Pairs R (days_to n)
 unfolding days_to
 Pairs-days R zero h = tt
 Pairs-days R (suc n) h =
@@ -85,7 +85,7 @@ beside-none same x (y ∷ ys) f h = ap (λ b. if b then f 0 else beside same x y
     ∙ beside-none same x ys (λ j. f (suc j)) h.1
 
 -- a name at its place, where no two are the same
-beside-at : {A : Type 0} (same : A → A → Bool) (ys : List A) (i : ℕ) (d : A) (f : ℕ → ℤ)
+pub beside-at : {A : Type 0} (same : A → A → Bool) (ys : List A) (i : ℕ) (d : A) (f : ℕ → ℤ)
     → ((x : A) → same x x ≡ true) → Pairs (λ x y. same y x ≡ false) ys → i < length ys
     → beside same (get_or ys i d) ys f ≡ f i
 unfolding beside

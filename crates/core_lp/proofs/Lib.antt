@@ -21,3 +21,8 @@ mod BasicSolution
 mod Duals
 mod Refusals
 mod Best
+mod RowSums
+mod Placed
+mod ColumnParts
+mod Charged
+mod RowWeights
