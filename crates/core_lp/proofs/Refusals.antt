@@ -24,13 +24,14 @@ use Rattle.core_duals.specs.Laws.{ListsAreOverCommon}
 use Rattle.core_lp.specs.declared.names.Col.{Col}
 use Rattle.core_lp.specs.declared.names.Col.TheVariants as col
 use Rattle.core_lp.specs.CaseProgramme.{columns, entry_at, loss_entry, bound_of, programme_of}
-use Rattle.core_lp.specs.Placing.{Numerators, in_common, farkas_weights, cannot_cert}
+use Rattle.core_lp.specs.Placing.{in_common, farkas_weights, cannot_cert}
 use Rattle.core_lp.specs.Laws.{CannotHold}
 use Rattle.core_lp.proofs.Beside.{last_column}
 use Rattle.core_lp.proofs.ByNames.{closing-known, columns-each, some-column, height-is}
 use Rattle.core_lp.proofs.ByNames.{over_rows-column, over_rows-bound}
 use Rattle.core_lp.proofs.Numerators.{sum-over, numerator-not_negative, numerator-negative}
 use Rattle.core_lp.proofs.RowNumbers.{over_rows, AreRowNumbers}
+use Rattle.core_lp.proofs.RowWeights.{refusing}
 
 module _ (lists : ListsAreOverCommon) (weights : WeightsOfRows) (c : CaseView) (is : IsCase c)
     (e : Dictionary)
@@ -102,14 +103,11 @@ module _ (lists : ListsAreOverCommon) (weights : WeightsOfRows) (c : CaseView) (
       cannot.value above
 
   -- such numbers refuse, so their certificate shows that no calendar is admissible
-  pub refusal-shows : ((x : Numerators) → AreRowNumbers c (at x.list) → pos 1 ≤ℤ x.den
-      → pos 0 ≤ℤ over_rows c (at x.list) loss_entry → over_rows c (at x.list) (bound_of c) <ℤ pos 0
-      → AreRefusing c (farkas_weights c x)) → Shows c (cannot_cert c e r)
-  refusal-shows refusing = record {
-    none = refusing_shows c
-        (farkas_weights c (in_common (farkas_of e r))) is refuse;
+  pub refusal-shows : Shows c (cannot_cert c e r)
+  refusal-shows = record {
+    none = refusing_shows c (farkas_weights c (in_common (farkas_of e r))) is refuse;
     refusing = refuse;
   }
     where
       refuse : AreRefusing c (farkas_weights c (in_common (farkas_of e r)))
-      refuse = refusing (in_common (farkas_of e r)) numbers farkas-den losses bounds
+      refuse = refusing c (in_common (farkas_of e r)) is numbers farkas-den losses bounds
