@@ -14,6 +14,7 @@ mod Filling
 mod Naming
 mod Letters
 mod RowNumbers
+mod RowNames
 mod RowSums
 mod Placed
 mod ColumnParts
