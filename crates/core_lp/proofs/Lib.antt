@@ -21,6 +21,7 @@ mod BasicSolution
 mod Duals
 mod Refusals
 mod Best
+mod RowNames
 mod RowSums
 mod Placed
 mod ColumnParts

@@ -1,15 +1,16 @@
--- The weights that numbers of the rows give: each by the scenario, instrument, pool or line that it is of.
-use Rattle.std.proofs.Common.{◌≡◌, refl, ◌∙◌, ap, ap₂, ℕ, suc, ◌+◌, ◌-◌, ◌*◌, ◌/◌, ◌%◌, ◌<◌, ◌≤◌, ℤ, pos, ◌≤ℤ◌}
-use Rattle.std.proofs.Common.{Bool, true, false, List, [], ◌∷◌, length, if◌then◌else◌, arith}
+-- The weights that numbers of the rows give, by scenario, instrument, pool and line.
+use Rattle.std.proofs.Common.{◌≡◌, ◌∙◌, ap, ap₂, ℕ, suc, ◌+◌, ◌-◌, ◌*◌, ◌/◌, ◌%◌, ◌<◌, ◌≤◌, ℤ, pos}
+use Rattle.std.proofs.Common.{◌≤ℤ◌, Bool, true, false, List, [], ◌∷◌, length, if◌then◌else◌, arith}
 use Rattle.std.proofs.lemmas.Int.{ints}
 use Rattle.std.proofs.lemmas.Nat.{div-mul-add, mod-mul-add}
 use Rattle.core_sums.proofs.Lists.{get_or-below}
 use Rattle.core_book.specs.View.{CaseView, line, tiers}
 use Rattle.core_model.specs.declared.cert.Weights.{Weights}
 use Rattle.core_model.specs.Closing.{line_count, IsClosingDay, IsTierNumber}
-use Rattle.core_model.specs.Layout.{closing_place, pool_place, scenario_place, scenario_count, limit_count, pool_count}
-use Rattle.core_model.specs.Layout.{scenario_weight, limit_weight, pool_weight, full_weight, row_at_place}
-use Rattle.core_model.specs.Layout.{day_at_place, tier_at_place, pool_at_place, pool_day_at_place}
+use Rattle.core_model.specs.Layout.{closing_place, pool_place, scenario_place, scenario_count}
+use Rattle.core_model.specs.Layout.{limit_count, pool_count, scenario_weight, limit_weight}
+use Rattle.core_model.specs.Layout.{pool_weight, full_weight, row_at_place, day_at_place}
+use Rattle.core_model.specs.Layout.{tier_at_place, pool_at_place, pool_day_at_place}
 use Rattle.core_model.specs.Layout.{scenario_at_place, house_day_at_place}
 use Rattle.core_model.proofs.Places.{place-within, closing-within}
 use Rattle.core_lp.specs.declared.names.RowName.{RowName}
@@ -40,14 +41,17 @@ module _ (c : CaseView) (i u j : ℕ) (day : IsClosingDay c u) (tier : IsTierNum
   tier-back : tier_at_place c place ≡ j
   tier-back =
       let e : suc (j - 1) ≡ j = omega (arith, tier.0) in
-      ap suc (mod-mul-add (i * c.horizon + (u - 1)) (tiers c) (j - 1) (omega (arith, tier.0, tier.1))) ∙ e
+      ap suc (mod-mul-add (i * c.horizon + (u - 1)) (tiers c) (j - 1)
+      (omega (arith, tier.0, tier.1)))
+      ∙ e
 
 -- ---- the weights
 module _ (c : CaseView) (den : ℤ) (scenario : ℕ → ℕ → ℤ) (y : ℕ → ℤ) where
   abbrev w : Weights
   w = weights_placed c den scenario y
 
-  pub scenario-placed : (k t : ℕ) → k < length c.scenarios → t ≤ c.last → scenario_weight c w k t ≡ scenario k t
+  pub scenario-placed : (k t : ℕ) → k < length c.scenarios → t ≤ c.last
+      → scenario_weight c w k t ≡ scenario k t
   scenario-placed k t l m =
       get_or-below (scenario_count c) (scenario_place c k t)
       (λ n. scenario (scenario_at_place c n) (house_day_at_place c n)) (pos 0)
@@ -59,11 +63,13 @@ module _ (c : CaseView) (den : ℤ) (scenario : ℕ → ℕ → ℤ) (y : ℕ �
       → limit_weight c w i u j ≡ of_row c y (row.Limit i u j)
   limit-placed i u j l day tier =
       get_or-below (limit_count c) (place c i u j day tier)
-      (λ n. of_row c y (row.Limit (row_at_place c n) (day_at_place c n) (tier_at_place c n))) (pos 0)
+      (λ n. of_row c y (row.Limit (row_at_place c n) (day_at_place c n) (tier_at_place c n)))
+      (pos 0)
       (closing-within c (length c.instruments) i u j l day tier)
       ∙ ap
       (λ (n : ℕ). of_row c y
-      (row.Limit n (day_at_place c (place c i u j day tier)) (tier_at_place c (place c i u j day tier))))
+      (row.Limit n (day_at_place c (place c i u j day tier))
+      (tier_at_place c (place c i u j day tier))))
       (row-back c i u j day tier)
       ∙ ap (λ (n : ℕ). of_row c y (row.Limit i n (tier_at_place c (place c i u j day tier))))
       (day-back c i u j day tier)
@@ -99,5 +105,6 @@ beside-nonneg same x (y ∷ ys) f h =
     by true k = h 0 (omega arith)
     by false k = k
 
-pub of_row-nonneg : (c : CaseView) (y : ℕ → ℤ) (name : RowName) → AreRowNumbers c y → pos 0 ≤ℤ of_row c y name
+pub of_row-nonneg : (c : CaseView) (y : ℕ → ℤ) (name : RowName) → AreRowNumbers c y
+    → pos 0 ≤ℤ of_row c y name
 of_row-nonneg c y name numbers = beside-nonneg same_row name (row_names c) y numbers.signs
