@@ -1,49 +1,25 @@
 -- The weights that numbers of the rows give, by scenario, instrument, pool and line.
-use Rattle.std.proofs.Common.{◌≡◌, ◌∙◌, ap, ap₂, ℕ, suc, ◌+◌, ◌-◌, ◌*◌, ◌/◌, ◌%◌, ◌<◌, ◌≤◌, ℤ, pos}
+use Rattle.std.proofs.Common.{◌≡◌, ◌∙◌, ap, ap₂, ℕ, suc, ◌-◌, ◌<◌, ◌≤◌, ℤ, pos}
 use Rattle.std.proofs.Common.{◌≤ℤ◌, Bool, true, false, List, [], ◌∷◌, length, if◌then◌else◌, arith}
 use Rattle.std.proofs.lemmas.Int.{ints}
 use Rattle.std.proofs.lemmas.Nat.{div-mul-add, mod-mul-add}
 use Rattle.core_sums.proofs.Lists.{get_or-below}
-use Rattle.core_book.specs.View.{CaseView, line, tiers}
+use Rattle.core_book.specs.View.{CaseView, line}
 use Rattle.core_model.specs.declared.cert.Weights.{Weights}
 use Rattle.core_model.specs.Closing.{line_count, IsClosingDay, IsTierNumber}
-use Rattle.core_model.specs.Layout.{closing_place, pool_place, scenario_place, scenario_count}
-use Rattle.core_model.specs.Layout.{limit_count, pool_count, scenario_weight, limit_weight}
-use Rattle.core_model.specs.Layout.{pool_weight, full_weight, row_at_place, day_at_place}
-use Rattle.core_model.specs.Layout.{tier_at_place, pool_at_place, pool_day_at_place}
+use Rattle.core_model.specs.Layout.{pool_place, scenario_place, scenario_count}
+use Rattle.core_model.specs.Layout.{pool_count, scenario_weight, limit_weight}
+use Rattle.core_model.specs.Layout.{pool_weight, full_weight}
+use Rattle.core_model.specs.Layout.{pool_at_place, pool_day_at_place}
 use Rattle.core_model.specs.Layout.{scenario_at_place, house_day_at_place}
-use Rattle.core_model.proofs.Places.{place-within, closing-within}
+use Rattle.core_model.proofs.Places.{place-within}
 use Rattle.core_lp.specs.declared.names.RowName.{RowName}
 use Rattle.core_lp.specs.declared.names.RowName.TheVariants as row
 use Rattle.core_lp.specs.CaseProgramme.{row_names}
 use Rattle.core_lp.specs.ByName.{beside}
 use Rattle.core_lp.specs.Placing.{same_row, of_row, full_placed, weights_placed}
+use Rattle.core_lp.proofs.ByPlace.{closing-placed}
 use Rattle.core_lp.proofs.RowNumbers.{AreRowNumbers}
-
--- ---- what stands at the place of a row, a closing day and a tier
-module _ (c : CaseView) (i u j : ℕ) (day : IsClosingDay c u) (tier : IsTierNumber c j) where
-  abbrev place : ℕ
-  place = closing_place c i u j
-
-  by_day : place / tiers c ≡ i * c.horizon + (u - 1)
-  by_day = div-mul-add (i * c.horizon + (u - 1)) (tiers c) (j - 1) (omega (arith, tier.0, tier.1))
-
-  row-back : row_at_place c place ≡ i
-  row-back = ap (λ (n : ℕ). n / c.horizon) by_day
-      ∙ div-mul-add i c.horizon (u - 1) (omega (arith, day.0, day.1))
-
-  day-back : day_at_place c place ≡ u
-  day-back =
-      let e : suc (u - 1) ≡ u = omega (arith, day.0) in
-      ap (λ (n : ℕ). suc (n % c.horizon)) by_day
-      ∙ ap suc (mod-mul-add i c.horizon (u - 1) (omega (arith, day.0, day.1))) ∙ e
-
-  tier-back : tier_at_place c place ≡ j
-  tier-back =
-      let e : suc (j - 1) ≡ j = omega (arith, tier.0) in
-      ap suc (mod-mul-add (i * c.horizon + (u - 1)) (tiers c) (j - 1)
-      (omega (arith, tier.0, tier.1)))
-      ∙ e
 
 -- ---- the weights
 module _ (c : CaseView) (den : ℤ) (scenario : ℕ → ℕ → ℤ) (y : ℕ → ℤ) where
@@ -61,19 +37,8 @@ module _ (c : CaseView) (den : ℤ) (scenario : ℕ → ℕ → ℤ) (y : ℕ �
 
   pub limit-placed : (i u j : ℕ) → i < length c.instruments → IsClosingDay c u → IsTierNumber c j
       → limit_weight c w i u j ≡ of_row c y (row.Limit i u j)
-  limit-placed i u j l day tier =
-      get_or-below (limit_count c) (place c i u j day tier)
-      (λ n. of_row c y (row.Limit (row_at_place c n) (day_at_place c n) (tier_at_place c n)))
-      (pos 0)
-      (closing-within c (length c.instruments) i u j l day tier)
-      ∙ ap
-      (λ (n : ℕ). of_row c y
-      (row.Limit n (day_at_place c (place c i u j day tier))
-      (tier_at_place c (place c i u j day tier))))
-      (row-back c i u j day tier)
-      ∙ ap (λ (n : ℕ). of_row c y (row.Limit i n (tier_at_place c (place c i u j day tier))))
-      (day-back c i u j day tier)
-      ∙ ap (λ (n : ℕ). of_row c y (row.Limit i u n)) (tier-back c i u j day tier)
+  limit-placed i u j =
+      closing-placed c (length c.instruments) i u j (λ i u j. of_row c y (row.Limit i u j))
 
   pub pool-placed : (p u : ℕ) → p < length c.pools → IsClosingDay c u
       → pool_weight c w p u ≡ of_row c y (row.Pool p u)

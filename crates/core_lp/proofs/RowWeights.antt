@@ -1,56 +1,30 @@
 -- Numbers of the rows that the dual of the programme allows are weights that bound or refuse.
 use Rattle.std.proofs.Common.{◌≡◌, refl, sym, ◌∙◌, ap, ℕ, zero, suc, ◌<◌, ◌≤◌, ℤ, pos, ◌+ℤ◌, ◌-ℤ◌}
-use Rattle.std.proofs.Common.{◌*ℤ◌, neg_ℤ, ◌≤ℤ◌, ◌<ℤ◌, Bool, true, ◌&&◌, ◌==◌, nat_le, is_some}
-use Rattle.std.proofs.Common.{length, arith, if◌then◌else◌, subst}
+use Rattle.std.proofs.Common.{◌*ℤ◌, neg_ℤ, ◌≤ℤ◌, ◌<ℤ◌}
+use Rattle.std.proofs.Common.{length, arith, subst}
 use Rattle.std.proofs.lemmas.Int.{ints}
-use Rattle.std.proofs.lemmas.Bool.{leb-true, and_parts}
 use Rattle.std.proofs.Math.IntN.{zero-*ℤ}
 use Rattle.core_sums.specs.Sums.{sum_days}
 use Rattle.core_sums.specs.Places.{at}
 use Rattle.core_sums.proofs.SumLaws.{sum_below-single, sum_below-zero, sum_below-nonneg, term-none}
-use Rattle.core_book.specs.View.{CaseView, instrument, line, instrument_of, tiers_of, counts, pays}
-use Rattle.core_book.specs.View.{is_traded, is_allowed}
+use Rattle.core_book.specs.View.{CaseView, line}
 use Rattle.core_book.specs.Kept.{IsCase}
 use Rattle.core_book.specs.declared.parts.Side.{Side}
 use Rattle.core_book.specs.declared.parts.Side.TheVariants.{Position, Collateral}
-use Rattle.core_book.proofs.Depth.{within-depth}
 use Rattle.core_model.specs.declared.cert.Weights.{Weights}
-use Rattle.core_model.specs.Closing.{line_count, IsClosing, fixed}
+use Rattle.core_model.specs.Closing.{fixed}
 use Rattle.core_model.specs.Layout.{full_weight}
 use Rattle.core_model.specs.Bounds.{AreWeights, AreBounding, AreRefusing, bound, charge}
-use Rattle.core_model.proofs.Sizes.{instrument-known}
 use Rattle.core_lp.specs.declared.names.RowName.TheVariants as row
 use Rattle.core_lp.specs.CaseProgramme.{close_entry, loss_entry, bound_of}
 use Rattle.core_lp.specs.Placing.{Numerators, of_row, scenario_placed, full_placed, weights_placed}
 use Rattle.core_lp.specs.Placing.{dual_weights, farkas_weights}
+use Rattle.core_lp.proofs.ByNames.{closing-known}
 use Rattle.core_lp.proofs.RowNumbers.{over_rows, AreRowNumbers}
 use Rattle.core_lp.proofs.Placed.{scenario-placed, limit-placed, pool-placed, full-placed}
 use Rattle.core_lp.proofs.Placed.{of_row-nonneg}
 use Rattle.core_lp.proofs.Charged.{AreOfLosses, all_losses, all_first, losses-are, losses-split}
 use Rattle.core_lp.proofs.Charged.{placed-charge, placed-bound}
-
--- an allowed closing is one of the case
-closing-of : (c : CaseView) (l u j : ℕ) → IsCase c → l < line_count c → is_allowed c l u j ≡ true
-    → IsClosing c l u j
-closing-of c l u j sound below e =
-    let six = and_parts (most && nat_le 1 j && nat_le j (tiers_of c x))
-    (if counts c x u then is_traded (instrument c x) u else j == 1) e in
-    let five = and_parts (most && nat_le 1 j) (nat_le j (tiers_of c x)) six.0 in
-    let four = and_parts most (nat_le 1 j) five.0 in
-    let three = and_parts (nat_le 1 u && nat_le u c.horizon) (is_some (pays c x u)) four.0 in
-    let two = and_parts (nat_le 1 u) (nat_le u c.horizon) three.0 in
-    let deep = within-depth c x sound (instrument-known c l sound below) in
-    let last = leb-true j (tiers_of c x) five.1 in (
-      below,
-      (leb-true 1 u two.0, leb-true u c.horizon two.1),
-      (leb-true 1 j four.1, omega (arith, deep, last)),
-    )
-  where
-    x : ℕ
-    x = instrument_of c l
-
-    most : Bool
-    most = nat_le 1 u && nat_le u c.horizon && is_some (pays c x u)
 
 -- ---- weights that are placed
 module _ (c : CaseView) (den : ℤ) (scenario : ℕ → ℕ → ℤ) (y : ℕ → ℤ) where
@@ -76,7 +50,7 @@ module _ (c : CaseView) (den : ℤ) (scenario : ℕ → ℕ → ℤ) (y : ℕ �
     charged = λ l u j m e.
         enough (over_rows c y (λ name. close_entry c name l u j)) (charge c w l u j)
         (full_weight w l)
-        (placed-charge c den scenario y l u j sound later (closing-of c l u j sound m e))
+        (placed-charge c den scenario y l u j sound later (closing-known c l u j sound m e))
         (numbers.closings l u j m e);
   }
     where
