@@ -25,7 +25,7 @@ use Rattle.core_lp.proofs.Sums.{sum_days-none}
 use Rattle.core_lp.proofs.Pools.{member-kept}
 use Rattle.core_lp.proofs.RowNumbers.{over_rows}
 use Rattle.core_lp.proofs.RowSums.{sum_backs, sum_later, over_rows-kinds}
-use Rattle.core_lp.proofs.Placed.{scenario-placed, limit-placed, pool-placed, full-placed}
+use Rattle.core_lp.proofs.PlacedWeights.{scenario-placed, limit-placed, pool-placed, full-placed}
 use Rattle.core_lp.proofs.ColumnParts.{later-cong, later-neg, later-minus, later-scale_right}
 use Rattle.core_lp.proofs.ColumnParts.{limits-cong, pools-cong, limit-one, by_member, pool-one}
 use Rattle.core_lp.proofs.ColumnParts.{chosen, chosen-if, unit-nought, full-part}

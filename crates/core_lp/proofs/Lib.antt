@@ -23,7 +23,7 @@ mod Refusals
 mod Best
 mod RowNames
 mod RowSums
-mod Placed
+mod PlacedWeights
 mod ColumnParts
 mod Charged
 mod RowWeights

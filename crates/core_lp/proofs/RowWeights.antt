@@ -21,8 +21,8 @@ use Rattle.core_lp.specs.Placing.{Numerators, of_row, scenario_placed, full_plac
 use Rattle.core_lp.specs.Placing.{dual_weights, farkas_weights}
 use Rattle.core_lp.proofs.ByNames.{closing-known}
 use Rattle.core_lp.proofs.RowNumbers.{over_rows, AreRowNumbers}
-use Rattle.core_lp.proofs.Placed.{scenario-placed, limit-placed, pool-placed, full-placed}
-use Rattle.core_lp.proofs.Placed.{of_row-nonneg}
+use Rattle.core_lp.proofs.PlacedWeights.{scenario-placed, limit-placed, pool-placed, full-placed}
+use Rattle.core_lp.proofs.PlacedWeights.{of_row-nonneg}
 use Rattle.core_lp.proofs.Charged.{AreOfLosses, all_losses, all_first, losses-are, losses-split}
 use Rattle.core_lp.proofs.Charged.{placed-charge, placed-bound}
 
