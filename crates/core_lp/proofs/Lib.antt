@@ -14,3 +14,8 @@ mod Filling
 mod Naming
 mod Letters
 mod RowNumbers
+mod Fills
+mod NamesAtPlaces
+mod Walking
+mod Placed
+mod PlacedFits
