@@ -19,3 +19,4 @@ mod NamesAtPlaces
 mod Walking
 mod Placed
 mod PlacedFits
+mod LossPlaced

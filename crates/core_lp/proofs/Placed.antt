@@ -1,17 +1,18 @@
 -- The parts of a certificate from the numbers by place, and that 128 bits keep them.
 use Rattle.std.proofs.Common.{◌≡◌, refl, sym, ◌∙◌, ap, ℕ, zero, suc, ◌<◌, ◌≤◌, ◌⊎◌, inl, inr, ℤ, pos, ◌-ℤ◌, neg_ℤ, ◌≤ℤ◌}
-use Rattle.std.proofs.Common.{Bool, true, false, eqb, ◌&&◌, List, [], ◌∷◌, length, get_or, set, drop, unsigned_abs}
+use Rattle.std.proofs.Common.{Bool, true, false, eqb, ◌&&◌, List, [], ◌∷◌, length, get_or, set, take, drop, replicate, unsigned_abs, ◌-◌}
 use Rattle.std.proofs.Common.{if◌then◌else◌, subst, arith, lit≤}
 use Rattle.std.specs.List.{All}
 use Rattle.std.proofs.lemmas.Int.{ints}
 use Rattle.std.proofs.lemmas.Bool.{cases_lt, ne_eqb}
-use Rattle.std.proofs.lemmas.List.{get_or_past}
+use Rattle.std.proofs.lemmas.List.{get_or_past, take_rest}
 use Rattle.core_sums.specs.Places.{at}
 use Rattle.core_sums.specs.Widths.{IsKept, most}
 use Rattle.core_sums.proofs.Lists.{get_or-below}
 use Rattle.core_book.specs.View.{CaseView, line}
 use Rattle.core_book.specs.declared.parts.Side.{Side}
 use Rattle.core_book.specs.declared.parts.Side.TheVariants.{Position, Collateral}
+use Rattle.core_model.specs.declared.cert.Weights.{Weights}
 use Rattle.core_model.specs.Closing.{line_count}
 use Rattle.core_model.specs.Layout.{scenario_count, scenario_place, scenario_at_place, house_day_at_place}
 use Rattle.core_lp.specs.declared.names.RowName.{RowName}
@@ -19,13 +20,13 @@ use Rattle.core_lp.specs.declared.names.RowName.TheVariants as row
 use Rattle.core_lp.specs.declared.row_numbers.RowNumbers.{RowNumbers}
 use Rattle.core_lp.specs.CaseProgramme.{row_names}
 use Rattle.core_lp.specs.Known.{IsRow}
-use Rattle.core_lp.specs.Placing.{by_place, same_row, of_row, scenario_placed, full_placed}
+use Rattle.core_lp.specs.Placing.{by_place, same_row, of_row, scenario_placed, full_placed, weights_placed}
 use Rattle.core_lp.specs.Walked.{by_row, line_weight, line_weights, IsWeight}
 use Rattle.core_lp.proofs.Alls.{AllOf-places}
 use Rattle.core_lp.proofs.Sums.{both_second}
 use Rattle.core_lp.proofs.Beside.{beside-none}
 use Rattle.core_lp.proofs.Naming.{row-known}
-use Rattle.core_lp.proofs.Fills.{by_place-same, by_place-put, by_place-all, beside-all}
+use Rattle.core_lp.proofs.Fills.{by_place-same, by_place-put, by_place-zero, by_place-all, beside-all}
 use Rattle.core_lp.proofs.NamesAtPlaces.{at-loss}
 
 -- ---- the scenarios
@@ -66,6 +67,12 @@ module _ (c : CaseView) (first : ℤ) (f : ℕ → ℤ) where
     where
       here : scenario_place c 0 0 ≡ 0
       here = omega arith
+
+-- ---- weights of the same lists
+pub same-weights : (den : ℤ) (s t l m p q f g : List ℤ) → s ≡ t → l ≡ m → p ≡ q → f ≡ g
+    → let x : Weights = record { den = den; scenario = s; limit = l; pool = p; full = f } in
+    let y : Weights = record { den = den; scenario = t; limit = m; pool = q; full = g } in x ≡ y
+same-weights den s t l m p q f g a b d e = rw (a, b, d, e) refl
 
 -- ---- the lines
 pub lines-are : (c : CaseView) (f : ℕ → ℤ) (x : RowNumbers) → x.back ≡ (by_row c (row_names c) f).back
@@ -123,6 +130,39 @@ pub opposite-kept : (x : ℤ) → IsWeight x → IsKept (neg_ℤ x)
 opposite-kept x h = omega (arith, ints, h.0, h.1)
 
 -- ---- the first of a list, and the rest
-pub rest-at : (xs : List ℤ) (i : ℕ) → at xs (suc i) ≡ at (drop 1 xs) i
-rest-at [] i = refl
-rest-at (x ∷ xs) i = refl
+rest-at : (xs : List ℤ) → at (drop 1 xs) ≡ (λ i. at xs (suc i))
+rest-at [] = refl
+rest-at (x ∷ xs) = refl
+
+pub rows-of-rest : (c : CaseView) (xs ys : List ℤ) (x : RowNumbers) → ys ≡ xs
+    → x ≡ by_row c (row_names c) (at (take (length ys - 1) (drop 1 ys)))
+    → x ≡ by_row c (row_names c) (λ i. at xs (suc i))
+rows-of-rest c xs ys x e is =
+    is ∙ ap (λ zs. by_row c (row_names c) (at (take (length zs - 1) (drop 1 zs)))) e
+    ∙ ap (λ zs. by_row c (row_names c) (at zs)) (take_rest xs 1) ∙ ap (by_row c (row_names c)) (rest-at xs)
+
+-- ---- all weights
+pub dual-weights-are : (c : CaseView) (den first : ℤ) (f : ℕ → ℤ) (x : RowNumbers) (loss full : List ℤ)
+    → x ≡ by_row c (row_names c) f → loss ≡ set x.loss 0 first
+    → full ≡ line_weights c (record { full = x.full; back = x.back; limit = x.limit; pool = x.pool; loss = loss })
+    → record { den = den; scenario = loss; limit = x.limit; pool = x.pool; full = full }
+    ≡ weights_placed c den (scenario_placed c first f) f
+dual-weights-are c den first f x loss full is put lines =
+    let y : RowNumbers = record { full = x.full; back = x.back; limit = x.limit; pool = x.pool; loss = loss } in
+    let a = put ∙ ap (λ (v : RowNumbers). set v.loss 0 first) is ∙ scenarios-are c first f in
+    let l = ap (λ (v : RowNumbers). v.limit) is in
+    let p = ap (λ (v : RowNumbers). v.pool) is in
+    let g = lines ∙ lines-are c f y (ap (λ (v : RowNumbers). v.back) is) (ap (λ (v : RowNumbers). v.full) is) in
+    same-weights den loss _ x.limit _ x.pool _ full _ a l p g
+
+pub farkas-weights-are : (c : CaseView) (den : ℤ) (f : ℕ → ℤ) (x : RowNumbers) (none full : List ℤ) (n : ℕ)
+    → x ≡ by_row c (row_names c) f → none ≡ replicate n (pos 0) → n ≡ scenario_count c → full ≡ line_weights c x
+    → record { den = den; scenario = none; limit = x.limit; pool = x.pool; full = full }
+    ≡ weights_placed c den (λ k t. pos 0) f
+farkas-weights-are c den f x none full n is zeros size lines =
+    let a = zeros ∙ ap (λ (m : ℕ). replicate m (pos 0)) size
+    ∙ by_place-zero (scenario_count c) (λ m. pos 0) (λ m. refl) in
+    let l = ap (λ (v : RowNumbers). v.limit) is in
+    let p = ap (λ (v : RowNumbers). v.pool) is in
+    let g = lines ∙ lines-are c f x (ap (λ (v : RowNumbers). v.back) is) (ap (λ (v : RowNumbers). v.full) is) in
+    same-weights den none _ x.limit _ x.pool _ full _ a l p g

@@ -11,6 +11,9 @@ use Rattle.core_model.specs.Closing.{line_count}
 use Rattle.core_model.specs.Layout.{amount_count, scenario_count, limit_count, pool_count, row_at_place}
 use Rattle.core_model.specs.Layout.{day_at_place, tier_at_place, pool_at_place, pool_day_at_place}
 use Rattle.core_model.specs.Layout.{scenario_at_place, house_day_at_place}
+use Rattle.core_model.specs.declared.cert.Weights.{Weights}
+use Rattle.core_model.specs.declared.cert.Cert.TheVariants.{Closes}
+use Rattle.core_lp.specs.Placing.{calendar_placed, dual_weights, closes_placed}
 use Rattle.core_model.specs.Fits.{Fits, AreKept, WeightsFit}
 use Rattle.core_lp.specs.declared.certificate.Parts.{Parts}
 use Rattle.core_lp.specs.declared.certificate.Parts.TheVariants as parts
@@ -92,3 +95,9 @@ placed-fits c (parts.Cannot farkas) h stays =
 pub placed-refuses : (c : CaseView) (x : Parts) → HasNoScenario (placed c x)
 placed-refuses c (parts.Optimal primal duals) = tt
 placed-refuses c (parts.Cannot farkas) = by_place-all (λ z. z ≡ pos 0) (scenario_count c) (λ n. pos 0) (λ n. refl)
+
+-- ---- the certificate of its parts
+pub closes-are : (c : CaseView) (x y : Numerators) (amounts : List ℤ) (loss : ℤ) (w : Weights)
+    → amounts ≡ (calendar_placed c x).amounts → loss ≡ loss_placed c x → w ≡ dual_weights c y
+    → Closes (record { den = x.den; amounts = amounts }) loss w ≡ closes_placed c x y
+closes-are c x y amounts loss w a l e = rw (a, l, e) refl

@@ -57,6 +57,8 @@ fn dual_weights(
     requires numbers { ArePositive (suc (length (row_names case.now))) (numerators_of duals.now) }
     ensures { IfOk result (λ weights. weights ≡ dual_weights case.now (numerators_of duals.now)) }
 {
+    // The horizon's contract says that the case is well-formed, so that it has a scenario.
+    case.horizon();
     let mut rows = by_row(alloc, case, built, &duals.numbers[1..])?;
     rows.loss.set(0, duals.numbers[0]);
     let full = line_weights(alloc, case, &rows)?;
