@@ -1,6 +1,6 @@
 -- Numbers by name and by place: one number put into a list by place, and what holds of each of them.
-use Rattle.std.proofs.Common.{◌≡◌, ◌≢◌, refl, sym, ◌∙◌, ap, ℕ, zero, suc, ◌<◌, ◌⊎◌, inl, inr, ℤ, pos}
-use Rattle.std.proofs.Common.{Bool, true, false, eqb, eq-eqb, List, [], ◌∷◌, length, map, get_or, set, replicate}
+use Rattle.std.proofs.Common.{◌≡◌, ◌≢◌, sym, ◌∙◌, ap, ℕ, suc, ◌<◌, ◌⊎◌, inl, inr, ℤ, pos}
+use Rattle.std.proofs.Common.{Bool, true, false, eqb, eq-eqb, List, [], ◌∷◌, length, set, replicate}
 use Rattle.std.proofs.Common.{if◌then◌else◌, subst, arith}
 use Rattle.std.specs.List.{All}
 use Rattle.std.proofs.lemmas.Bool.{cases_eq, ne_eqb}

@@ -1,5 +1,5 @@
 -- When the loss of a calendar leaves 128 bits.
-use Rattle.std.proofs.Common.{◌≡◌, refl, sym, ◌∙◌, ap, ap₂, ◌<◌, ◌≤◌, ℤ, pos, ◌-ℤ◌, ◌*ℤ◌, true, false, subst, unsigned_abs, arith}
+use Rattle.std.proofs.Common.{◌≡◌, sym, ◌∙◌, ap₂, ◌<◌, ℤ, ◌-ℤ◌, ◌*ℤ◌, true, false, subst, unsigned_abs, arith}
 use Rattle.std.proofs.lemmas.Int.{ints}
 use Rattle.std.proofs.lemmas.Bool.Decides.{nat_tests}
 use Rattle.core_sums.specs.Sums.{sum_below}

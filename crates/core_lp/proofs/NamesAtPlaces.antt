@@ -1,6 +1,6 @@
 -- A column or a row has the name of a place exactly where the place is its own.
-use Rattle.std.proofs.Common.{◌≡◌, ◌≢◌, refl, sym, ◌∙◌, ap, ℕ, suc, ◌+◌, ◌-◌, ◌*◌, ◌/◌, ◌%◌, ◌<◌, ◌⊎◌, inl, inr}
-use Rattle.std.proofs.Common.{Bool, true, false, eqb, eq-eqb, ◌&&◌, arith}
+use Rattle.std.proofs.Common.{◌≡◌, ◌≢◌, sym, ◌∙◌, ap, ℕ, suc, ◌+◌, ◌-◌, ◌*◌, ◌/◌, ◌%◌, ◌<◌, ◌⊎◌, inl, inr}
+use Rattle.std.proofs.Common.{Bool, true, eqb, eq-eqb, ◌&&◌, arith}
 use Rattle.std.proofs.lemmas.Bool.{cases_eq, ne_eqb, eqb-true}
 use Rattle.std.proofs.lemmas.Nat.{div-mul-add, mod-mul-add}
 use Rattle.core_rules.proofs.Orders.{refuted, both}

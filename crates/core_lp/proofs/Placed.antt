@@ -1,13 +1,13 @@
 -- The parts of a certificate from the numbers by place, and that 128 bits keep them.
-use Rattle.std.proofs.Common.{◌≡◌, refl, sym, ◌∙◌, ap, ℕ, zero, suc, ◌<◌, ◌≤◌, ◌⊎◌, inl, inr, ℤ, pos, ◌-ℤ◌, neg_ℤ, ◌≤ℤ◌}
-use Rattle.std.proofs.Common.{Bool, true, false, eqb, ◌&&◌, List, [], ◌∷◌, length, get_or, set, take, drop, replicate, unsigned_abs, ◌-◌}
+use Rattle.std.proofs.Common.{◌≡◌, refl, sym, ◌∙◌, ap, ℕ, zero, suc, ◌<◌, ◌≤◌, ◌⊎◌, inl, inr, ℤ, pos, ◌-ℤ◌, neg_ℤ}
+use Rattle.std.proofs.Common.{true, false, eqb, ◌&&◌, List, [], ◌∷◌, length, get_or, set, take, drop, replicate, ◌-◌}
 use Rattle.std.proofs.Common.{if◌then◌else◌, subst, arith, lit≤}
 use Rattle.std.specs.List.{All}
 use Rattle.std.proofs.lemmas.Int.{ints}
 use Rattle.std.proofs.lemmas.Bool.{cases_lt, ne_eqb}
 use Rattle.std.proofs.lemmas.List.{get_or_past, take_rest}
 use Rattle.core_sums.specs.Places.{at}
-use Rattle.core_sums.specs.Widths.{IsKept, most}
+use Rattle.core_sums.specs.Widths.{IsKept}
 use Rattle.core_sums.proofs.Lists.{get_or-below}
 use Rattle.core_book.specs.View.{CaseView, line}
 use Rattle.core_book.specs.declared.parts.Side.{Side}

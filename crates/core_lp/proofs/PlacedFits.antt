@@ -1,6 +1,5 @@
 -- The certificate of numbers that 128 bits keep fits its case.
-use Rattle.std.proofs.Common.{◌≡◌, refl, ℕ, zero, suc, ◌^◌, ◌-◌, ◌<◌, ◌≤◌, ◌⊎◌, inl, inr, ℤ, pos, ◌≤ℤ◌, unsigned_abs, length, arith, List}
-use Rattle.std.specs.List.{All}
+use Rattle.std.proofs.Common.{◌≡◌, refl, ℕ, zero, suc, ◌^◌, ◌-◌, ◌<◌, ◌≤◌, ◌⊎◌, inl, inr, ℤ, pos, ◌≤ℤ◌, unsigned_abs, length, List}
 use Rattle.std.proofs.lemmas.Bool.{cases_lt}
 use Rattle.core_sums.specs.Places.{at}
 use Rattle.core_sums.specs.Widths.{IsKept, most}
@@ -20,7 +19,7 @@ use Rattle.core_lp.specs.declared.certificate.Parts.TheVariants as parts
 use Rattle.core_lp.specs.declared.names.Col.TheVariants as col
 use Rattle.core_lp.specs.declared.names.RowName.TheVariants as row
 use Rattle.core_lp.specs.CaseProgramme.{columns, row_names}
-use Rattle.core_lp.specs.ByName.{same_col, of_column}
+use Rattle.core_lp.specs.ByName.{same_col}
 use Rattle.core_lp.specs.Placing.{by_place, of_row, full_placed, scenario_placed, weights_placed, loss_placed}
 use Rattle.core_lp.specs.Placing.{Numerators, LossLeaves, Difference, numerators_of, placed, PlacedLeaves, ArePartsOf, ArePositive, HasNoScenario}
 use Rattle.core_lp.specs.Walked.{IsWeight}

@@ -1,11 +1,11 @@
 -- The numbers of columns and of rows by place, as their names are walked from the last to the first.
 use Rattle.std.proofs.Common.{◌≡◌, refl, sym, ◌∙◌, ap, ap₂, ℕ, suc, ◌-◌, ◌<◌, ◌≤◌, ℤ, pos, Bool, true, false, eqb, ◌&&◌, List, [], ◌∷◌}
-use Rattle.std.proofs.Common.{length, get_or, set, drop, drop-cons, replicate, if◌then◌else◌, subst, arith}
+use Rattle.std.proofs.Common.{length, get_or, drop, drop-cons, replicate, if◌then◌else◌, subst, arith}
 use Rattle.std.proofs.lemmas.List.{drop_all}
 use Rattle.core_sums.specs.Places.{below, at, each}
 use Rattle.core_book.specs.View.{CaseView, is_allowed}
 use Rattle.core_book.specs.Kept.{IsCase}
-use Rattle.core_model.specs.Closing.{line_count, IsClosing}
+use Rattle.core_model.specs.Closing.{line_count}
 use Rattle.core_model.specs.Layout.{amount_count, scenario_count, limit_count, pool_count, row_at_place}
 use Rattle.core_model.specs.Layout.{day_at_place, tier_at_place, pool_at_place, pool_day_at_place}
 use Rattle.core_model.specs.Layout.{scenario_at_place, house_day_at_place}

@@ -1,4 +1,4 @@
-use Rattle.std.proofs.Common.{◌≡◌, ◌∙◌, ℕ, suc, ◌*◌, ◌<◌, ◌≤◌, ℤ, pos, List, length, set, ap, arith, rules}
+use Rattle.std.proofs.Common.{◌≡◌, ◌∙◌, suc, ◌*◌, ◌≤◌, pos, length, set, ap, arith, rules}
 use Rattle.std.specs.Int.{w128}
 use Rattle.std.proofs.lemmas.Int.{to_z-of_z}
 use Rattle.std.proofs.lemmas.List.{get_or_read, length-set}
