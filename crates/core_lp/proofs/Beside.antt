@@ -77,7 +77,7 @@ Pairs-days R (suc n) h =
 
 -- ---- look-ups
 -- a name that is not there
-beside-none : {A : Type 0} (same : A → A → Bool) (x : A) (ys : List A) (f : ℕ → ℤ)
+pub beside-none : {A : Type 0} (same : A → A → Bool) (x : A) (ys : List A) (f : ℕ → ℤ)
     → AllOf (λ y. same x y ≡ false) ys → beside same x ys f ≡ pos 0
 unfolding beside
 beside-none same x [] f h = refl

@@ -27,3 +27,9 @@ mod PlacedWeights
 mod ColumnParts
 mod Charged
 mod RowWeights
+mod Fills
+mod NamesAtPlaces
+mod Walking
+mod Placed
+mod PlacedFits
+mod LossPlaced

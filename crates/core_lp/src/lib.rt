@@ -6,10 +6,13 @@ ghost use Rattle.core_lp.specs.Laws.{BestIsValid, NoSolutionIsValid};
 
 mod built;
 mod certificate;
+mod column_numbers;
 mod columns;
 mod names;
 mod numbers;
 mod orders;
+mod places;
+mod row_numbers;
 mod rows;
 mod weights;
 
