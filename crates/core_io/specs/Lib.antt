@@ -1,4 +1,5 @@
 pub mod Causes
+pub mod States
 pub mod Calls
 pub mod Shelves
 pub mod Sinks

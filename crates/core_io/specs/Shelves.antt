@@ -5,6 +5,7 @@ use Rattle.std.specs.BTreeMap.{get_by_text}
 use Rattle.std.specs.Str.{bytes_eq}
 use Rattle.core_io.specs.declared.memory_shelf.MemShelf.{MemShelf}
 use Rattle.core_io.specs.Calls.{CallsView, fails_next}
+use Rattle.core_io.specs.States.{ShelfState}
 
 -- the bytes under a name
 abbrev pub told_by : MemShelf → List ℕ → Option (List ℕ)
@@ -13,6 +14,10 @@ told_by shelf name = option_map (λ entry. entry.bytes.items) (get_by_text shelf
 -- the count of faults of a name; all names that are not there have one
 abbrev pub faults_of : MemShelf → List ℕ → ℕ
 faults_of shelf name = option_map_or (λ entry. entry.faults) (get_by_text shelf.entries name) shelf.missing
+
+-- what a call sees of the shelf
+abbrev pub state_of : MemShelf → ShelfState
+state_of shelf = record { told = told_by shelf; faults = faults_of shelf }
 
 -- the reads so far, and which are to fail
 abbrev pub calls_of : MemShelf → CallsView

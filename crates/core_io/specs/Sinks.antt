@@ -1,6 +1,7 @@
 -- What a sink in memory holds, takes and counts.
-use Rattle.std.specs.Prelude.{ℕ, ◌-◌, min, Bool, ◌||◌, ◌&&◌, nat_lt, nat_le, List, [], length}
+use Rattle.std.specs.Prelude.{ℕ, ◌-◌, min, Some, Bool, ◌||◌, ◌&&◌, nat_lt, nat_le, List, [], length}
 use Rattle.core_io.specs.Calls.{CallsView, no_calls, fails_next}
+use Rattle.core_io.specs.States.{SinkState}
 
 -- what was written, how much is taken in all and at most of one piece, the faults and the calls
 pub record SinkView : Type 0 where
@@ -9,6 +10,10 @@ pub record SinkView : Type 0 where
   pub most : ℕ
   pub faults : ℕ
   pub calls : CallsView
+
+-- what a call sees of the sink
+abbrev pub state_of : SinkView → SinkState
+state_of sink = record { held = Some sink.written; faults = sink.faults }
 
 -- a sink in which nothing is written
 abbrev pub empty_sink : ℕ → ℕ → SinkView

@@ -2,8 +2,9 @@
 //! the standard output.
 #![tactic(auto)]
 
-ghost use Rattle.std.specs.Prelude.{◌≡◌, ℕ, ◌+◌, ◌<◌, ◌≤◌, List, Option, length, take, IfOk, OnOk, OnErr, IfSome};
-ghost use Rattle.core_io.specs.Causes.{Rose, GivesIfTold, Appends, AppendsPart};
+ghost use Rattle.std.specs.Prelude.{◌≡◌, ◌<◌, ◌≤◌, length, take, IfOk, OnOk, OnErr, IfSome};
+ghost use Rattle.core_io.specs.Causes.{GivesIfTold};
+ghost use Rattle.core_io.specs.States.{ShelfState, SinkState, KeepsBytes, KeepsCounts, KeepsCount, ReadFailed, WriteFailed, Writes, WritesPart};
 
 use std::alloc::Global;
 
@@ -42,41 +43,35 @@ pub enum ReadAll {
 
 /// Bytes by name, with a count of the faults of each name.
 pub trait Shelf {
-    /// The bytes under a name, where the shelf tells them.
-    ghost told: { Self → List ℕ → Option (List ℕ) };
-
-    /// How many reads of a name have failed.
-    ghost faults: { Self → List ℕ → ℕ };
+    /// The bytes under each name, where the shelf tells them, and how many reads of it have failed.
+    ghost state: { Self → ShelfState };
 
     /// Reads bytes of a name from place `at` on, counted from 0, and answers how many it put at the head of `into`.
     /// It fails only with a counted fault of this name. Where memory runs out, `into` may hold anything.
     fn read(&mut self, name: &str, at: u64, into: &mut [u8]) -> Result<usize, ShelfFault>
-        ensures kept { (other : List ℕ) → told self.new other ≡ told self.old other }
-        ensures counts { (other : List ℕ) → faults self.old other ≤ faults self.new other }
+        ensures kept { KeepsBytes (state self.old) (state self.new) }
+        ensures counts { KeepsCounts (state self.old) (state self.new) }
         ensures fits { IfOk result (λ n. n ≤ length into.new) }
-        ensures gives { IfOk result (λ n. GivesIfTold (told self.old name.now) at n into.new) }
+        ensures gives { IfOk result (λ n. GivesIfTold ((state self.old).told name.now) at n into.new) }
         ensures cause { result ≡ Err ShelfFault.Failed
-            → Rose (faults self.old name.now) (faults self.new name.now) };
+            → ReadFailed (state self.old) (state self.new) name.now };
 }
 
 /// A place where bytes are written one after the other, with a count of its faults.
 pub trait Sink {
-    /// All bytes written so far, where the sink tells them.
-    ghost written: { Self → Option (List ℕ) };
-
-    /// How many writes have failed.
-    ghost faults: { Self → ℕ };
+    /// All bytes written so far, where the sink tells them, and how many writes have failed.
+    ghost state: { Self → SinkState };
 
     /// Writes bytes from the head of the piece and answers how many, at least one where the piece has any.
     /// It fails only with a counted fault, and then nothing is written.
     fn write(&mut self, piece: &[u8]) -> Result<usize, Failed>
         ensures fits { IfOk result (λ n. n ≤ length piece.now) }
         ensures some { IfOk result (λ n. 0 < length piece.now → 0 < n) }
-        ensures appends { IfOk result (λ n. Appends (written self.old) (written self.new)
+        ensures appends { IfOk result (λ n. Writes (state self.old) (state self.new)
             (take n piece.now)) }
-        ensures unchanged { OnErr result (written self.new ≡ written self.old) }
-        ensures counts { faults self.old ≤ faults self.new }
-        ensures cause { OnErr result (Rose (faults self.old) (faults self.new)) };
+        ensures unchanged { OnErr result ((state self.new).held ≡ (state self.old).held) }
+        ensures counts { KeepsCount (state self.old) (state self.new) }
+        ensures cause { OnErr result (WriteFailed (state self.old) (state self.new)) };
 }
 
 /// The bytes under the name, at most `most` of them. Long says that more are there: it is answered once
@@ -89,17 +84,17 @@ pub fn read_all<S: Shelf>(
 ) -> Result<Vec<u8>, ReadAll>
     requires { most ≤ 4194304 }
 
-    ensures bytes { IfOk result (λ v. IfSome (S.told shelf.old name.now)
+    ensures bytes { IfOk result (λ v. IfSome ((S.state shelf.old).told name.now)
         (λ bytes. v.items ≡ bytes)) }
     ensures at_most { IfOk result (λ v. length v.items ≤ most) }
-    ensures long { result ≡ Err ReadAll.Long → IfSome (S.told shelf.old name.now)
+    ensures long { result ≡ Err ReadAll.Long → IfSome ((S.state shelf.old).told name.now)
         (λ bytes. most < length bytes) }
 
     // Only a fault of this name is answered as one, and a read changes no bytes.
     ensures fault { result ≡ Err ReadAll.Fault
-        → Rose (S.faults shelf.old name.now) (S.faults shelf.new name.now) }
-    ensures kept { (other : List ℕ) → S.told shelf.new other ≡ S.told shelf.old other }
-    ensures counts { (other : List ℕ) → S.faults shelf.old other ≤ S.faults shelf.new other }
+        → ReadFailed (S.state shelf.old) (S.state shelf.new) name.now }
+    ensures kept { KeepsBytes (S.state shelf.old) (S.state shelf.new) }
+    ensures counts { KeepsCounts (S.state shelf.old) (S.state shelf.new) }
 {
     let mut all = Vec::new(alloc);
     let mut buffer = [0u8; 4096];
@@ -122,10 +117,10 @@ pub fn read_all<S: Shelf>(
 /// Writes the whole text. Where a write fails, a part of the text from its head may have been written, and never
 /// all of it. Takes no memory.
 pub fn write_all<K: Sink>(sink: &mut K, text: &[u8]) -> Result<(), Failed>
-    ensures appends { OnOk result (Appends (K.written sink.old) (K.written sink.new) text.now) }
-    ensures part { OnErr result (AppendsPart (K.written sink.old) (K.written sink.new) text.now) }
-    ensures cause { OnErr result (Rose (K.faults sink.old) (K.faults sink.new)) }
-    ensures counts { K.faults sink.old ≤ K.faults sink.new }
+    ensures appends { OnOk result (Writes (K.state sink.old) (K.state sink.new) text.now) }
+    ensures part { OnErr result (WritesPart (K.state sink.old) (K.state sink.new) text.now) }
+    ensures cause { OnErr result (WriteFailed (K.state sink.old) (K.state sink.new)) }
+    ensures counts { KeepsCount (K.state sink.old) (K.state sink.new) }
 {
     let mut done = 0;
     while done < text.len() {

@@ -1,6 +1,7 @@
 // A shelf in memory.
 ghost use Rattle.std.specs.Prelude.{◌≡◌, ◌≢◌, ◌≤◌, ◌-◌, ℕ, List, Some, None, min, length, take, drop, ◌&&◌, if◌then◌else◌, is_err, IfOk, IfSome, OnOk, OnErr};
-ghost use Rattle.core_io.specs.Causes.{Rose, GivesIfTold, next_count};
+ghost use Rattle.core_io.specs.Causes.{GivesIfTold, next_count};
+ghost use Rattle.core_io.specs.States.{KeepsBytes, KeepsCounts, ReadFailed};
 ghost use Rattle.core_io.specs.Calls.{no_calls, after_call, with_failing};
 
 use crate::calls::Calls;
@@ -111,21 +112,19 @@ fn copy_from(bytes: &[u8], at: u64, into: &mut [u8]) -> usize
 }
 
 impl Shelf for MemShelf {
-    ghost use Rattle.core_io.specs.Shelves.{told_by, faults_of, calls_of, read_fails, shares_count};
+    ghost use Rattle.core_io.specs.Shelves.{state_of, told_by, faults_of, calls_of, read_fails, shares_count};
 
-    ghost told = { told_by };
-
-    ghost faults = { faults_of };
+    ghost state = { state_of };
 
     /// Fails exactly where the number of this call is listed or the name is not there, and never for want of memory.
     /// It gives as many bytes as there are and as there is room for.
     fn read(&mut self, name: &str, at: u64, into: &mut [u8]) -> Result<usize, ShelfFault>
-        ensures kept { (other : List ℕ) → told_by self.new other ≡ told_by self.old other }
-        ensures counts { (other : List ℕ) → faults_of self.old other ≤ faults_of self.new other }
+        ensures kept { KeepsBytes (state_of self.old) (state_of self.new) }
+        ensures counts { KeepsCounts (state_of self.old) (state_of self.new) }
         ensures fits { IfOk result (λ n. n ≤ length into.new) }
         ensures gives { IfOk result (λ n. GivesIfTold (told_by self.old name.now) at n into.new) }
         ensures cause { result ≡ Err ShelfFault.Failed
-            → Rose (faults_of self.old name.now) (faults_of self.new name.now) }
+            → ReadFailed (state_of self.old) (state_of self.new) name.now }
 
         // Beyond what each shelf promises: when it fails, what is counted, and how much is given.
         ensures fails { is_err result ≡ read_fails self.old name.now }

@@ -1,8 +1,9 @@
 // A sink in memory.
-ghost use Rattle.std.specs.Prelude.{Some, ◌≡◌, ◌<◌, ◌≤◌, ◌++◌, length, take, is_err, IfOk, OnOk, OnErr};
-ghost use Rattle.core_io.specs.Causes.{Rose, Appends, next_count};
+ghost use Rattle.std.specs.Prelude.{◌≡◌, ◌<◌, ◌≤◌, ◌++◌, length, take, is_err, IfOk, OnOk, OnErr};
+ghost use Rattle.core_io.specs.Causes.{next_count};
+ghost use Rattle.core_io.specs.States.{KeepsCount, WriteFailed, Writes};
 ghost use Rattle.core_io.specs.Calls.{after_call, with_failing};
-ghost use Rattle.core_io.specs.Sinks.{empty_sink, taken_of, write_fails};
+ghost use Rattle.core_io.specs.Sinks.{empty_sink, state_of, taken_of, write_fails};
 
 use crate::calls::Calls;
 use crate::{Failed, Sink};
@@ -65,19 +66,17 @@ impl MemSink {
 }
 
 impl Sink for MemSink {
-    ghost written = { λ s. Some s.written };
-
-    ghost faults = { λ s. s.faults };
+    ghost state = { state_of };
 
     /// Fails exactly where the number of this call is listed, or where no room is left for a piece that is not empty.
     fn write(&mut self, piece: &[u8]) -> Result<usize, Failed>
         ensures fits { IfOk result (λ n. n ≤ length piece.now) }
         ensures some { IfOk result (λ n. 0 < length piece.now → 0 < n) }
-        ensures appends { IfOk result (λ n. Appends (Some self.old.written) (Some self.new.written)
+        ensures appends { IfOk result (λ n. Writes (state_of self.old) (state_of self.new)
             (take n piece.now)) }
-        ensures unchanged { OnErr result (Some self.new.written ≡ Some self.old.written) }
-        ensures counts { self.old.faults ≤ self.new.faults }
-        ensures cause { OnErr result (Rose self.old.faults self.new.faults) }
+        ensures unchanged { OnErr result ((state_of self.new).held ≡ (state_of self.old).held) }
+        ensures counts { KeepsCount (state_of self.old) (state_of self.new) }
+        ensures cause { OnErr result (WriteFailed (state_of self.old) (state_of self.new)) }
 
         // Beyond what each sink promises: when it fails, how much it takes, and what it is afterwards.
         ensures fails { is_err result ≡ write_fails self.old piece.now }

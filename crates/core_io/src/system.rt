@@ -36,8 +36,8 @@ impl Model for FileShelf {
 impl FileShelf {
     /// A shelf of the files that the program can open. It tells no bytes, and its count starts at 0.
     pub fn make(rt: HostRuntime) -> FileShelf
-        ensures untold { (name : List ℕ) → ⟦<FileShelf as Shelf>⟧.told result name ≡ None }
-        ensures no_fault { (name : List ℕ) → ⟦<FileShelf as Shelf>⟧.faults result name ≡ 0 }
+        ensures untold { (name : List ℕ) → (⟦<FileShelf as Shelf>⟧.state result).told name ≡ None }
+        ensures no_fault { (name : List ℕ) → (⟦<FileShelf as Shelf>⟧.state result).faults name ≡ 0 }
     {
         FileShelf {
             rt,
@@ -84,9 +84,7 @@ impl FileShelf {
 }
 
 impl Shelf for FileShelf {
-    ghost told = { λ _ _. None };
-
-    ghost faults = { λ count _. count };
+    ghost state = { λ count. record { told = λ _. None; faults = λ _. count } };
 
     /// Counts each failure but want of memory, and nothing else.
     fn read(&mut self, name: &str, at: u64, into: &mut [u8]) -> Result<usize, ShelfFault>
@@ -128,17 +126,15 @@ impl Model for OutSink {
 impl OutSink {
     /// A sink over the standard output. It tells no bytes, and its count starts at 0.
     pub fn make(out: Stdout) -> OutSink
-        ensures untold { ⟦<OutSink as Sink>⟧.written result ≡ None }
-        ensures no_fault { ⟦<OutSink as Sink>⟧.faults result ≡ 0 }
+        ensures untold { (⟦<OutSink as Sink>⟧.state result).held ≡ None }
+        ensures no_fault { (⟦<OutSink as Sink>⟧.state result).faults ≡ 0 }
     {
         OutSink { out, faults: 0 }
     }
 }
 
 impl Sink for OutSink {
-    ghost written = { λ _. None };
-
-    ghost faults = { λ count. count };
+    ghost state = { λ count. record { held = None; faults = count } };
 
     /// Counts each failure, which is also a write that takes nothing of a piece that is not empty, and nothing else.
     fn write(&mut self, piece: &[u8]) -> Result<usize, Failed>

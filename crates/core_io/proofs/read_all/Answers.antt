@@ -8,5 +8,5 @@ loop-buffer-preserved g c = record {
   kept = λ other. c.in-Ok.ensures.kept other ∙ c.loop-buffer.invariant.kept other;
   counts = λ other. omega (arith, c.loop-buffer.invariant.counts other, c.in-Ok.ensures.counts other);
   within = grind (arith, common_steps);
-  bytes = read_piece (g.S.Shelf.told c.args.shelf.now c.args.name.now) (g.S.Shelf.told c.loop-buffer.shelf c.args.name.now) c.loop-buffer.all.items c.extend_from_slice.new.self.items c.read.new.into (drop c.min-want.result c.loop-buffer.buffer) c.len-at.result c.in-Ok.n (c.loop-buffer.invariant.kept c.args.name.now) (search rules) c.in-Ok-extend_from_slice.ensures.items c.in-Ok.ensures.fits c.loop-buffer.invariant.bytes c.in-Ok.ensures.gives;
+  bytes = read_piece ((g.S.Shelf.state c.args.shelf.now).told c.args.name.now) ((g.S.Shelf.state c.loop-buffer.shelf).told c.args.name.now) c.loop-buffer.all.items c.extend_from_slice.new.self.items c.read.new.into (drop c.min-want.result c.loop-buffer.buffer) c.len-at.result c.in-Ok.n (c.loop-buffer.invariant.kept c.args.name.now) (search rules) c.in-Ok-extend_from_slice.ensures.items c.in-Ok.ensures.fits c.loop-buffer.invariant.bytes c.in-Ok.ensures.gives;
 }

@@ -3,10 +3,10 @@ use Rattle.core_io.proofs.read_all.Given as goal
 
 abbrev pub invariant-loop-buffer : goal.invariant-loop-buffer
 invariant-loop-buffer g l = record {
-  kept : (other : List ℕ) → g.S.Shelf.told l.shelf other ≡ g.S.Shelf.told l.fn.shelf other;
-  counts : (other : List ℕ) → g.S.Shelf.faults l.fn.shelf other ≤ g.S.Shelf.faults l.shelf other;
+  kept : (other : List ℕ) → (g.S.Shelf.state l.shelf).told other ≡ (g.S.Shelf.state l.fn.shelf).told other;
+  counts : (other : List ℕ) → (g.S.Shelf.state l.fn.shelf).faults other ≤ (g.S.Shelf.state l.shelf).faults other;
   within : length l.all.items ≤ l.most + 1;
-  bytes : IfSome (g.S.Shelf.told l.fn.shelf l.name) (λ bytes. l.all.items ≡ take (length l.all.items) bytes);
+  bytes : IfSome ((g.S.Shelf.state l.fn.shelf).told l.name) (λ bytes. l.all.items ≡ take (length l.all.items) bytes);
 }
 
 abbrev pub decreases-loop-buffer : goal.decreases-loop-buffer

@@ -6,5 +6,5 @@ pub loop-done-preserved : goal.loop-done-preserved
 loop-done-preserved g c = record {
   in_range = search rules;
   counts = search rules;
-  appends = Appends-piece (g.K.Sink.written c.args.sink.now) (g.K.Sink.written c.loop-done.sink) (g.K.Sink.written c.write.new.self) c.args.text.now c.loop-done.done c.in_ok-done.field-0 c.loop-done.invariant.appends c.in_ok-done.ensures.appends;
+  appends = Appends-piece ((g.K.Sink.state c.args.sink.now).held) ((g.K.Sink.state c.loop-done.sink).held) ((g.K.Sink.state c.write.new.self).held) c.args.text.now c.loop-done.done c.in_ok-done.field-0 c.loop-done.invariant.appends c.in_ok-done.ensures.appends;
 }

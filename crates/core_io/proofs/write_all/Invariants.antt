@@ -5,8 +5,8 @@ use Rattle.core_io.proofs.write_all.Given as goal
 abbrev pub invariant-loop-done : goal.invariant-loop-done
 invariant-loop-done g l = record {
   in_range : l.done ≤ length l.text;
-  counts : g.K.Sink.faults l.fn.sink ≤ g.K.Sink.faults l.sink;
-  appends : Appends (g.K.Sink.written l.fn.sink) (g.K.Sink.written l.sink) (take l.done l.text);
+  counts : (g.K.Sink.state l.fn.sink).faults ≤ (g.K.Sink.state l.sink).faults;
+  appends : Appends ((g.K.Sink.state l.fn.sink).held) ((g.K.Sink.state l.sink).held) (take l.done l.text);
 }
 
 abbrev pub decreases-loop-done : goal.decreases-loop-done
