@@ -55,7 +55,7 @@ fn dual_weights(
 ) -> Result<Weights, AllocError>
     requires built { built.now ≡ named_of case.now }
     requires numbers { ArePositive (suc (length (row_names case.now))) (numerators_of duals.now) }
-    ensures { IfOk result (λ weights. weights ≡ dual_weights case.now (numerators_of duals.now)) }
+    ensures { IfOk result (λ w. w ≡ dual_weights case.now (numerators_of duals.now)) }
 {
     // The horizon's contract says that the case is well-formed, so that it has a scenario.
     case.horizon();
@@ -80,7 +80,7 @@ fn farkas_weights(
 ) -> Result<Weights, AllocError>
     requires built { built.now ≡ named_of case.now }
     requires numbers { ArePositive (length (row_names case.now)) (numerators_of farkas.now) }
-    ensures { IfOk result (λ weights. weights ≡ farkas_weights case.now (numerators_of farkas.now)) }
+    ensures { IfOk result (λ w. w ≡ farkas_weights case.now (numerators_of farkas.now)) }
 {
     let rows = by_row(alloc, case, built, &farkas.numbers)?;
     let full = line_weights(alloc, case, &rows)?;
