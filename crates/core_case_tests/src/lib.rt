@@ -10,6 +10,8 @@ mod case;
 #[cfg(test)]
 mod days;
 #[cfg(test)]
+mod demo;
+#[cfg(test)]
 mod flows;
 #[cfg(test)]
 mod io;

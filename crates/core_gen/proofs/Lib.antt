@@ -1,0 +1,4 @@
+mod Printed
+mod Computed
+mod Closes
+mod States
