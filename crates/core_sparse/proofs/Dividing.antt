@@ -156,3 +156,12 @@ no_own_leaves read n s x p turns kept pivot most fits value (Entry j l h) =
     leaves_none read n s x.items.items p turns kept pivot most fits j h
 no_own_leaves read n s x p turns kept pivot most fits value (OwnValue h) =
     value (subst (λ (y : Fraction). OverLeaves most (read x.value) y) (sym pivot) h)
+
+-- the pivot is turned over, and so not 0
+pub own_turns : {E : Type 0} (read : E → Fraction) (n s : ℕ) (x y : Row E) (p : Fraction) → p ≢ zero_q
+    → p ≡ entry_of read x s → IsOwnAfter read n s x y → entry_of read y s ≢ zero_q
+own_turns read n s x y p turns pivot made e =
+    quotient_turns one_q p turns one_turns
+    (ap (λ (z : Fraction). one_q /ℚ z) pivot
+    ∙ ap (λ (z : Fraction). z /ℚ entry_of read x s) (sym (at_equal s s one_q (entry_of read x s) refl))
+    ∙ sym (made.entries s) ∙ e)

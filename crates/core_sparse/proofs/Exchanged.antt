@@ -16,7 +16,7 @@ use Rattle.core_dict.proofs.Holding.{have_variables}
 use Rattle.core_dict.proofs.Outside.{same_from_Agree, IsZeroOutside_pivot}
 use Rattle.core_dict.proofs.Reading.{zero_less}
 use Rattle.core_dict.proofs.Variables.{HasVariables_pivot}
-use Rattle.core_sparse.specs.Items.{number, IsKept}
+use Rattle.core_sparse.specs.Items.{number, IsRising, IsKept}
 use Rattle.core_sparse.specs.Steps.{entry_of, AreKept, IsExchanged}
 use Rattle.core_sparse.specs.Sparse.{rows_of, room_of, entry_of_row, value_of_row, tableau, IsPrepared}
 use Rattle.core_sparse.specs.SparseLaw.{slot_entries, slot_value, entries_at, value_of_at, tableau_outside}
@@ -220,3 +220,24 @@ module _ {E : Type 0} (read : E → Fraction) (r s : ℕ) (xs : List (Slot E)) (
               (subst (λ (m : ℕ). j < m) (length-set nonbasic s n) k);
           cost = λ j l. cost_is j (subst (λ (m : ℕ). j < m) (length-set nonbasic s n) l);
         }
+
+-- a row that gets other room rises as before
+pub rising_with : {E : Type 0} (read : E → Fraction) (n : ℕ) (xs : List (Slot E)) → AreKept read n xs → (r : ℕ)
+    (x w : Slot E) → r < length xs → x ≡ get_or xs r x → w.row ≡ x.row → (k : ℕ) (z : Slot E) → k < length (set xs r w)
+    → IsRising (get_or (set xs r w) k z).row.items.items
+rising_with {E} read n xs kept r x w lr at row k z l = by (cases_eq k r)
+  where
+    in_xs : k < length xs
+    in_xs = subst (λ (m : ℕ). k < m) (length-set xs r w) l
+
+    here : IsRising (get_or (set xs r w) r z).row.items.items
+    here =
+        subst (λ (y : Slot E). IsRising y.row.items.items) (sym (get_or-set_same xs r w z lr))
+        (subst (λ (y : Row E). IsRising y.items.items) (ap (λ (y : Slot E). y.row) (sym at) ∙ sym row)
+        (kept r x lr).rising)
+
+    by : (k ≡ r) ⊎ (k ≢ r) → IsRising (get_or (set xs r w) k z).row.items.items
+    by (inl e) = subst (λ (i : ℕ). IsRising (get_or (set xs r w) i z).row.items.items) (sym e) here
+    by (inr ne) =
+        subst (λ (y : Slot E). IsRising y.row.items.items) (sym (get_or-set_other xs r k w z ne))
+        (kept k z in_xs).rising

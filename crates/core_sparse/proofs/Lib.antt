@@ -8,3 +8,4 @@ mod Ready
 mod Exchanged
 mod Filled
 mod Widened
+mod Started

@@ -3,7 +3,8 @@ use Rattle.std.proofs.Common.{◌≡◌, ◌≢◌, ℕ, ◌+◌, ◌<◌, ◌�
 use Rattle.std.proofs.Math.Seq.{map-set_same}
 use Rattle.std.proofs.lemmas.List.{get_or-set_same, get_or-set_other, get_or-map, get_or_default, length-set, length-map}
 use Rattle.fractions.specs.Fraction.{Fraction}
-use Rattle.core_sparse.specs.Steps.{IsMade, RowLeaves, IsExchanged}
+use Rattle.core_sparse.specs.Items.{IsKept}
+use Rattle.core_sparse.specs.Steps.{AreKept, IsMade, RowLeaves, IsExchanged}
 use Rattle.core_sparse.specs.declared.row.Row.{Row}
 use Rattle.core_sparse.specs.declared.row.Slot.{Slot}
 
@@ -15,6 +16,15 @@ same_row {E} xs ys i x e l =
     let m : length xs ≡ length ys = sym (length-map xs row) ∙ ap length e ∙ length-map ys row in
     sym (get_or-map row xs i x x.row l) ∙ ap (λ (zs : List (Row E)). get_or zs i x.row) e
     ∙ get_or-map row ys i x x.row (subst (λ (n : ℕ). i < n) m l)
+
+-- and the items of one are kept where those of the other are
+pub kept_same : {E : Type 0} (read : E → Fraction) (n : ℕ) (xs ys : List (Slot E))
+    → map (λ x. x.row) xs ≡ map (λ x. x.row) ys → AreKept read n ys → AreKept read n xs
+kept_same {E} read n xs ys e h k x l =
+    let row : Slot E → Row E = λ x. x.row in
+    let m : length xs ≡ length ys = sym (length-map xs row) ∙ ap length e ∙ length-map ys row in
+    subst (λ (y : Row E). IsKept read n y.items.items) (sym (same_row xs ys k x e l))
+    (h k x (subst (λ (j : ℕ). k < j) m l))
 
 module _ {E : Type 0} (most : ℕ) (read : E → Fraction) (n : ℕ) (p : Fraction) (s : ℕ) (own : Row E) (row : ℕ)
     (before : List (Slot E)) where

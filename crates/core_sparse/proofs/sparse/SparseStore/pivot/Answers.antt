@@ -1,4 +1,4 @@
-use Rattle.std.proofs.Common.{sym, ap, ◌∙◌}
+use Rattle.std.proofs.Common.{Err, sym, ap, ◌∙◌}
 use Rattle.core_dict.specs.Dictionary.{Dictionary}
 use Rattle.core_dict.specs.Pivot.{pivot}
 use Rattle.core_sparse.proofs.sparse.SparseStore.pivot.Goals as goal
@@ -10,3 +10,6 @@ exchange-requires-clause-entry g c =
 pub returns-in-Ok-clause-pivoted : goal.returns-in-Ok-clause-pivoted
 returns-in-Ok-clause-pivoted g c =
     c.exchange.ensures ∙ ap (λ (d : Dictionary). pivot d c.args.row c.args.col) c.in-Ok.ensures.same
+
+pub returns-in-Err-Left-clause-left : goal.returns-in-Err-Left-clause-left
+returns-in-Err-Left-clause-left g c = λ e. c.in-Err-Left.ensures.left (ap Err c.in-Err-Left.field-0-is)
