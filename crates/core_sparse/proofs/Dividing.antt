@@ -1,5 +1,5 @@
 -- The pivot's own row, divided by the pivot.
-use Rattle.std.proofs.Common.{◌≡◌, ◌≢◌, ℕ, ◌<◌, ◌⊎◌, inl, inr, Bool, true, false, ℤ, pos, cond, eqb}
+use Rattle.std.proofs.Common.{◌≡◌, ◌≢◌, ℕ, ◌<◌, ◌⊎◌, inl, inr, pos, cond, eqb}
 use Rattle.std.proofs.Common.{List, [], ◌∷◌, ◌++◌, length, map, take, get_or, sym, ap, ap₂, ◌∙◌, subst, refl, arith}
 use Rattle.std.proofs.Common.{◌+◌, below_more}
 use Rattle.std.proofs.lemmas.Bool.{cases_eq}

@@ -1,6 +1,6 @@
 -- A tableau whose room has been put in place is that of the pivot.
 use Rattle.std.proofs.Common.{◌≡◌, ◌≢◌, ℕ, ◌<◌, ◌⊎◌, inl, inr, List, [], ◌∷◌, length, get_or, set}
-use Rattle.std.proofs.Common.{sym, ap, ◌∙◌, subst, refl, arith}
+use Rattle.std.proofs.Common.{sym, ap, ◌∙◌, subst, refl}
 use Rattle.std.proofs.lemmas.Bool.{cases_eq}
 use Rattle.std.proofs.lemmas.List.{get_or-set_same, get_or-set_other, length-set}
 use Rattle.algebra.proofs.Ring.{v, ◌⊗◌, ⊖, 𝟎, ring}
@@ -18,7 +18,7 @@ use Rattle.core_dict.proofs.Reading.{zero_less}
 use Rattle.core_dict.proofs.Variables.{HasVariables_pivot}
 use Rattle.core_sparse.specs.Items.{number, IsRising, IsKept}
 use Rattle.core_sparse.specs.Steps.{entry_of, AreKept, IsExchanged}
-use Rattle.core_sparse.specs.Sparse.{rows_of, room_of, entry_of_row, value_of_row, tableau, IsPrepared}
+use Rattle.core_sparse.specs.Sparse.{rows_of, entry_of_row, value_of_row, tableau, IsPrepared}
 use Rattle.core_sparse.specs.SparseLaw.{slot_entries, slot_value, entries_at, value_of_at, tableau_outside}
 use Rattle.core_sparse.specs.declared.row.Item.{Item}
 use Rattle.core_sparse.specs.declared.row.Row.{Row}

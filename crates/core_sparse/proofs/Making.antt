@@ -1,15 +1,16 @@
 -- The rows that a loop has gone through, with what it made of each in its room, or in its place.
 use Rattle.std.proofs.Common.{◌≡◌, ◌≢◌, ℕ, ◌+◌, ◌<◌, ◌≤◌, List, length, map, get_or, set, sym, ap, ◌∙◌, subst, arith, below_more}
 use Rattle.std.proofs.Math.Seq.{map-set_same}
-use Rattle.std.proofs.lemmas.List.{get_or-set_same, get_or-set_other, get_or-map, get_or_default, length-set, length-map}
+use Rattle.std.proofs.lemmas.List.{get_or-set_same, get_or-set_other, get_or-map, get_or_default, length-map}
 use Rattle.fractions.specs.Fraction.{Fraction}
 use Rattle.core_sparse.specs.Items.{IsKept}
+use Rattle.core_sparse.specs.Sparse.{rows_of}
 use Rattle.core_sparse.specs.Steps.{AreKept, IsMade, RowLeaves, IsExchanged}
 use Rattle.core_sparse.specs.declared.row.Row.{Row}
 use Rattle.core_sparse.specs.declared.row.Slot.{Slot}
 
 -- equal lists of rows have equal rows
-pub same_row : {E : Type 0} (xs ys : List (Slot E)) (i : ℕ) (x : Slot E) → map (λ x. x.row) xs ≡ map (λ x. x.row) ys
+pub same_row : {E : Type 0} (xs ys : List (Slot E)) (i : ℕ) (x : Slot E) → rows_of xs ≡ rows_of ys
     → i < length xs → (get_or xs i x).row ≡ (get_or ys i x).row
 same_row {E} xs ys i x e l =
     let row : Slot E → Row E = λ x. x.row in

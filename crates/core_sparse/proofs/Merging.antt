@@ -1,8 +1,8 @@
 -- The columns that a merge of two rows has gone through.
-use Rattle.std.proofs.Common.{◌≡◌, ◌≢◌, ℕ, suc, ◌<◌, ◌≤◌, ◌⊎◌, inl, inr, cond, eqb, min}
-use Rattle.std.proofs.Common.{List, [], length, get_or, sym, ap, ap₂, ◌∙◌, subst, refl, arith}
+use Rattle.std.proofs.Common.{◌≡◌, ◌≢◌, ℕ, suc, ◌<◌, ◌≤◌, ◌⊎◌, inl, inr, min}
+use Rattle.std.proofs.Common.{List, [], length, get_or, sym, ap, ◌∙◌, subst, arith}
 use Rattle.std.proofs.lemmas.Bool.{cases_eq, cases_lt}
-use Rattle.fractions.specs.Fraction.{Fraction, zero_q, ◌-ℚ◌, ◌*ℚ◌}
+use Rattle.fractions.specs.Fraction.{Fraction, zero_q}
 use Rattle.core_dict.specs.Leaving.{LessTimesLeaves}
 use Rattle.core_dict.proofs.Choice.{at_other}
 use Rattle.core_dict.proofs.Reading.{less_zero, no_leaving}

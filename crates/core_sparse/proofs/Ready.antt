@@ -8,10 +8,10 @@ use Rattle.core_dict.specs.Leaving as leaving
 use Rattle.core_dict.specs.Rows.{divided_entry, EntriesLeave}
 use Rattle.core_dict.proofs.Outcomes.{leaves_same, less_same}
 use Rattle.core_dict.proofs.Preparing.{entries_leave, leaves_entries, entry_is, no_pivot_leaves}
-use Rattle.core_sparse.specs.Items.{number, IsKept}
+use Rattle.core_sparse.specs.Items.{number}
 use Rattle.core_sparse.specs.Steps.{entry_of, IsOwnAfter, OwnRowLeaves, Entry, OwnValue, AreAfter, IsMade}
 use Rattle.core_sparse.specs.Steps.{RowLeaves, Entries, Value}
-use Rattle.core_sparse.specs.Sparse.{rows_of, room_of, entry_of_row, tableau, IsPrepared}
+use Rattle.core_sparse.specs.Sparse.{rows_of, entry_of_row, tableau, IsPrepared}
 use Rattle.core_sparse.specs.SparseLaw.{slot_entries, slot_value, entries_at, value_of_at}
 use Rattle.core_sparse.specs.declared.row.Item.{Item}
 use Rattle.core_sparse.specs.declared.row.Row.{Row}

@@ -1,15 +1,15 @@
 -- A new tableau holds the start.
-use Rattle.std.proofs.Common.{◌≡◌, ℕ, suc, ◌+◌, ◌<◌, cond, eqb, ltb, List, length, get_or, sym, ap, ◌∙◌, subst, arith}
-use Rattle.std.proofs.Common.{lt-ltb}
+use Rattle.std.proofs.Common.{◌≡◌, ℕ, suc, ◌+◌, ◌<◌, cond, eqb, List, length, get_or, sym, ap, ◌∙◌, subst, arith}
 use Rattle.fractions.specs.Fraction.{Fraction, one_q, zero_q}
 use Rattle.core_dict.specs.Programme.{ProgrammeView, height, IsProgramme}
 use Rattle.core_dict.specs.Dictionary.{start}
 use Rattle.core_dict.proofs.Outside.{same_from_Agree, start_outside}
 use Rattle.core_dict.proofs.Variables.{start-basic, start-nonbasic}
+use Rattle.core_dict.specs.DenseLaw.{some_of}
 use Rattle.core_sparse.specs.Items.{number, IsKept}
 use Rattle.core_sparse.specs.Steps.{AreStartRows}
 use Rattle.core_sparse.specs.Sparse.{rows_of, tableau}
-use Rattle.core_sparse.specs.SparseLaw.{element_of, slot_entries, slot_value, tableau_outside}
+use Rattle.core_sparse.specs.SparseLaw.{slot_entries, slot_value, tableau_outside}
 use Rattle.core_sparse.specs.declared.row.Item.{Item}
 use Rattle.core_sparse.specs.declared.row.Slot.{Slot}
 
@@ -44,10 +44,10 @@ start_tableau p basic nonbasic m n bs ns {E} read xs costs h rows kept cs =
     }
   where
     value : (i : ℕ) → i < length xs → (tableau read (rows_of xs) costs basic nonbasic).value i ≡ (start p).value i
-    value i l = let x : Slot E = element_of xs i l in slot_value read xs i x l ∙ (rows.each i x l).value
+    value i l = let x : Slot E = some_of xs i l in slot_value read xs i x l ∙ (rows.each i x l).value
 
     entry : (i j : ℕ) → i < length xs → j < p.cols
         → (tableau read (rows_of xs) costs basic nonbasic).entry i j ≡ (start p).entry i j
     entry i j l k =
-        let x : Slot E = element_of xs i l in
+        let x : Slot E = some_of xs i l in
         ap (λ (a : ℕ → Fraction). a j) (slot_entries read xs i x l) ∙ (rows.each i x l).entries j k

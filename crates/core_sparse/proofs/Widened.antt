@@ -1,13 +1,14 @@
 -- A widened tableau holds the same dictionary.
-use Rattle.std.proofs.Common.{◌≡◌, ◌≢◌, ℕ, ◌<◌, List, [], ◌∷◌, length, map, get_or, cond, eqb, sym, ap, ap₂, ◌∙◌, subst, refl, arith}
+use Rattle.std.proofs.Common.{◌≡◌, ℕ, ◌<◌, List, [], ◌∷◌, length, map, get_or, cond, eqb, sym, ap, ap₂, ◌∙◌, subst, refl, arith}
 use Rattle.std.proofs.Common.{◌+◌, ◌++◌, take}
 use Rattle.std.proofs.lemmas.List.{length-map, map-append, take_more}
 use Rattle.fractions.specs.Fraction.{Fraction, zero_q}
 use Rattle.core_dict.proofs.Outside.{same_from_Agree}
-use Rattle.core_sparse.specs.Items.{columns, col_at, value_at, number, IsKept}
+use Rattle.core_dict.specs.DenseLaw.{some_of}
+use Rattle.core_sparse.specs.Items.{columns, col_at, number, IsKept}
 use Rattle.core_sparse.specs.Steps.{AreKept, AreSame, IsWidened}
 use Rattle.core_sparse.specs.Sparse.{rows_of, tableau}
-use Rattle.core_sparse.specs.SparseLaw.{element_of, slot_entries, slot_value, tableau_outside}
+use Rattle.core_sparse.specs.SparseLaw.{slot_entries, slot_value, tableau_outside}
 use Rattle.core_sparse.specs.declared.row.Item.{Item}
 use Rattle.core_sparse.specs.declared.row.Slot.{Slot}
 
@@ -81,7 +82,7 @@ module _ {A B : Type 0} (from : A → Fraction) (to : B → Fraction) where
     pub widened_kept : AreKept to (length nonbasic) ys
     widened_kept k y m =
         let in_xs : k < length xs = subst (λ (n : ℕ). k < n) rows m in
-        let x : Slot A = element_of xs k in_xs in
+        let x : Slot A = some_of xs k in_xs in
         same_kept (length nonbasic) (get_or xs k x).row.items.items (get_or ys k y).row.items.items
         (each k y x in_xs).items (kept k x in_xs)
 
@@ -109,8 +110,8 @@ module _ {A B : Type 0} (from : A → Fraction) (to : B → Fraction) where
             ≡ (tableau from (rows_of xs) costs basic nonbasic).value i
         value i l =
             let m : i < length ys = subst (λ (n : ℕ). i < n) (sym rows) l in
-            let x : Slot A = element_of xs i l in
-            let y : Slot B = element_of ys i m in
+            let x : Slot A = some_of xs i l in
+            let y : Slot B = some_of ys i m in
             slot_value to ys i y m ∙ (each i y x l).value ∙ sym (slot_value from xs i x l)
 
         entry : (i j : ℕ) → i < length xs
@@ -118,8 +119,8 @@ module _ {A B : Type 0} (from : A → Fraction) (to : B → Fraction) where
             ≡ (tableau from (rows_of xs) costs basic nonbasic).entry i j
         entry i j l =
             let m : i < length ys = subst (λ (n : ℕ). i < n) (sym rows) l in
-            let x : Slot A = element_of xs i l in
-            let y : Slot B = element_of ys i m in
+            let x : Slot A = some_of xs i l in
+            let y : Slot B = some_of ys i m in
             ap (λ (a : ℕ → Fraction). a j) (slot_entries to ys i y m)
             ∙ same_number (get_or xs i x).row.items.items (get_or ys i y).row.items.items (each i y x l).items.cols
             (each i y x l).items.values j

@@ -11,10 +11,10 @@ use Rattle.core_sparse.specs.declared.row.Slot.{Slot}
 use Rattle.core_sparse.specs.declared.sparse.Sparse.{Sparse}
 
 -- the rows, and the room beside them
-abbrev pub rows_of : {E : Type 0} → List (Slot E) → List (Row E)
+abbrev pub rows_of : {E : Type 0} (xs : List (Slot E)) → List (Row E)
 rows_of xs = map (λ x. x.row) xs
 
-abbrev pub room_of : {E : Type 0} → List (Slot E) → List (Row E)
+abbrev pub room_of : {E : Type 0} (xs : List (Slot E)) → List (Row E)
 room_of xs = map (λ x. x.spare) xs
 
 -- the value of the row at a place, 0 past the last

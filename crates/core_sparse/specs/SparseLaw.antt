@@ -1,23 +1,24 @@
 -- What a tableau that keeps what is not 0 holds is a dictionary.
-use Rattle.std.proofs.Common.{◌≡◌, ◌≢◌, ℕ, zero, suc, ◌<◌, ◌≤◌, ◌⊎◌, inl, inr, Bool, true, ◌||◌, cond, eqb}
+use Rattle.std.proofs.Common.{◌≡◌, ◌≢◌, ℕ, zero, suc, ◌<◌, ◌≤◌, ◌⊎◌, inl, inr, Bool, true, ◌||◌, cond}
 use Rattle.std.proofs.Common.{List, [], ◌∷◌, length, map, get_or, sym, ap, refl, ◌∙◌, subst, arith, ne_eqb}
 use Rattle.std.proofs.lemmas.Bool.{cases_lt, cases_eq, or_cases}
 use Rattle.std.proofs.lemmas.List.{get_or_past, get_or-map, length-map}
 use Rattle.fractions.specs.Fraction.{Fraction, zero_q}
 use Rattle.core_dict.specs.Dictionary.{IsZeroOutside, IsDictionary, HasVariables, IsBasic, IsNonbasic}
+use Rattle.core_dict.specs.DenseLaw.{some_of}
 use Rattle.core_dict.specs.Variables.{is_among}
 use Rattle.core_sparse.specs.Items.{number, col_at, IsKept}
 use Rattle.core_sparse.specs.Steps.{entry_of, AreKept}
-use Rattle.core_sparse.specs.Sparse.{rows_of, room_of, value_of_row, entry_of_row, tableau, sparse_of}
+use Rattle.core_sparse.specs.Sparse.{rows_of, value_of_row, entry_of_row, tableau, sparse_of}
 use Rattle.core_sparse.specs.declared.row.Item.{Item}
 use Rattle.core_sparse.specs.declared.row.Row.{Row}
 use Rattle.core_sparse.specs.declared.row.Slot.{Slot}
 use Rattle.core_sparse.specs.declared.sparse.Sparse.{Sparse}
 
 -- a number that is among the first n stands somewhere
-stands_at : (n : ℕ) (f : ℕ → ℕ) (v : ℕ) → is_among n f v ≡ true → (i : ℕ) × (i < n) × (f i ≡ v)
-stands_at zero f v h = absurd cc
-stands_at (suc n) f v h = by (cases_eq (f n) v) (stands_at n f v)
+stands_at : (f : ℕ → ℕ) (n v : ℕ) → is_among n f v ≡ true → (i : ℕ) × (i < n) × (f i ≡ v)
+stands_at f zero v h = absurd cc
+stands_at f (suc n) v h = by (cases_eq (f n) v) (stands_at f n v)
   where
     by : (f n ≡ v) ⊎ (f n ≢ v) → (is_among n f v ≡ true → (i : ℕ) × (i < n) × (f i ≡ v))
         → (i : ℕ) × (i < suc n) × (f i ≡ v)
@@ -26,11 +27,6 @@ stands_at (suc n) f v h = by (cases_eq (f n) v) (stands_at n f v)
         let got : (i : ℕ) × (i < n) × (f i ≡ v) =
         rest (subst (λ (b : Bool). (b || is_among n f v) ≡ true) (ne_eqb (f n) v e) h) in
         (got.0, omega (arith, got.1), got.2)
-
--- an element of a list that has one
-pub element_of : {A : Type 0} (xs : List A) (i : ℕ) → i < length xs → A
-element_of [] i l = absurd (omega arith)
-element_of (x ∷ xs) i l = x
 
 module _ {E : Type 0} (read : E → Fraction) where
   -- where there is no item the number is 0
@@ -101,7 +97,7 @@ module _ {E : Type 0} (read : E → Fraction) where
       col : (i j : ℕ) → length nonbasic ≤ j → (i < length xs) ⊎ (length xs ≤ i)
           → entry_of_row read (rows_of xs) i j ≡ zero_q
       col i j l (inl m) =
-          let x : Slot E = element_of xs i m in
+          let x : Slot E = some_of xs i m in
           ap (λ (a : ℕ → Fraction). a j) (slot_entries xs i x m)
           ∙ number_past (length nonbasic) (get_or xs i x).row.items.items j (kept i x m) l
       col i j l (inr m) = past i j (longer i m)

@@ -35,11 +35,14 @@ fn own_items<E: Exact>(
 ) -> Result<(), Fault>
     requires pivot { E.value pivot ≢ zero_q }
     requires empty { after.old.items ≡ [] }
-    ensures exact { OnOk result (AreDivided E.value col (E.value pivot) before.now after.new.items) }
+    ensures exact { OnOk result
+        (AreDivided E.value col (E.value pivot) before.now after.new.items) }
     ensures fits { OnOk result ((k : ℕ) → k < length before.now
-        → ¬ (OverLeaves (unsigned_abs E.MOST) (divided_value E.value col before.now k) (E.value pivot))) }
+        → ¬ (OverLeaves (unsigned_abs E.MOST) (divided_value E.value col before.now k)
+        (E.value pivot))) }
     ensures left { result ≡ Err Fault.Left → (k : ℕ) × (k < length before.now)
-        × OverLeaves (unsigned_abs E.MOST) (divided_value E.value col before.now k) (E.value pivot) }
+        × OverLeaves (unsigned_abs E.MOST) (divided_value E.value col before.now k)
+        (E.value pivot) }
 {
     after.reserve(before.len())?;
     for item in before {
@@ -61,7 +64,8 @@ pub fn own_row<E: Exact>(
     requires pivot { E.value pivot ≢ zero_q }
     requires entry { E.value pivot ≡ entry_of E.value before.now col }
     ensures exact { OnOk result (IsOwnAfter E.value cols col before.now after.new) }
-    ensures fits { OnOk result (¬ (OwnRowLeaves (unsigned_abs E.MOST) E.value cols col before.now)) }
+    ensures fits { OnOk result
+        (¬ (OwnRowLeaves (unsigned_abs E.MOST) E.value cols col before.now)) }
     ensures left { result ≡ Err Fault.Left
         → OwnRowLeaves (unsigned_abs E.MOST) E.value cols col before.now }
 {

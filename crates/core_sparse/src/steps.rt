@@ -61,7 +61,8 @@ fn other_row<E: Exact>(
     requires pivot { E.value pivot ≢ zero_q }
     requires turned { entry_of E.value own.now col ≢ zero_q }
     requires q { E.value q ≡ entry_of E.value before.now col }
-    ensures exact { OnOk result (IsAfter E.value cols (E.value pivot) col own.now before.now after.new) }
+    ensures exact { OnOk result
+        (IsAfter E.value cols (E.value pivot) col own.now before.now after.new) }
     ensures fits { OnOk result
         (¬ (RowLeaves (unsigned_abs E.MOST) E.value cols (E.value pivot) col own.now before.now)) }
     ensures left { result ≡ Err Fault.Left
@@ -95,7 +96,8 @@ fn make<E: Exact>(
     ensures row { slot.new.row ≡ slot.old.row }
     ensures exact { OnOk result (IsMade E.value cols (E.value pivot) col own.now slot.new) }
     ensures fits { OnOk result
-        (¬ (RowLeaves (unsigned_abs E.MOST) E.value cols (E.value pivot) col own.now slot.old.row)) }
+        (¬ (RowLeaves (unsigned_abs E.MOST) E.value cols (E.value pivot) col own.now
+        slot.old.row)) }
     ensures left { result ≡ Err Fault.Left
         → RowLeaves (unsigned_abs E.MOST) E.value cols (E.value pivot) col own.now slot.old.row }
 {

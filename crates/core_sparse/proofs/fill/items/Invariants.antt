@@ -1,4 +1,3 @@
-use Rattle.std.proofs.Common.{ℕ}
 use Rattle.fractions.specs.Fraction.{whole}
 use Rattle.core_dict.specs.Programme.{entry}
 use Rattle.core_sparse.proofs.Filled.{Filled}

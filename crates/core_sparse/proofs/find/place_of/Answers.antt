@@ -1,4 +1,4 @@
-use Rattle.std.proofs.Common.{◌≡◌, ℕ, suc, ◌+◌, ◌-◌, ◌/◌, ◌<◌, ◌≤◌, length, sym, subst, arith}
+use Rattle.std.proofs.Common.{ℕ, ◌+◌, ◌-◌, ◌/◌, ◌<◌, ◌≤◌, length, sym, subst, arith}
 use Rattle.core_sparse.specs.Items.{col_at}
 use Rattle.core_sparse.proofs.Places.{col_is}
 use Rattle.core_sparse.proofs.Walks.{not_before}

@@ -1,5 +1,4 @@
-use Rattle.std.proofs.Common.{◌≡◌, ◌≢◌, ℕ, suc, ◌<◌, length, get_or, sym, ap, ◌∙◌, subst, arith, add-one}
-use Rattle.fractions.specs.Fraction.{Fraction}
+use Rattle.std.proofs.Common.{◌≡◌, ◌≢◌, suc, ◌<◌, length, sym, ap, ◌∙◌, arith, add-one}
 use Rattle.core_sparse.specs.Items.{col_at, number, Stands}
 use Rattle.core_sparse.proofs.Places.{col_is, value_is, number_here}
 use Rattle.core_sparse.proofs.Walks.{stands_past, stands_over, number_over}

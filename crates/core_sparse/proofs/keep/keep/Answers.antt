@@ -1,4 +1,4 @@
-use Rattle.std.proofs.Common.{◌≡◌, ℕ, ◌<◌, List, sym, ap, ◌∙◌, subst, arith}
+use Rattle.std.proofs.Common.{◌<◌, List, sym, ap, ◌∙◌, subst, arith}
 use Rattle.core_dict.proofs.Outcomes.{apart}
 use Rattle.core_sparse.specs.Items.{col_at, number, IsKept}
 use Rattle.core_sparse.specs.SparseLaw.{number_none}

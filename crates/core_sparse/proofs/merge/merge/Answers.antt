@@ -1,4 +1,4 @@
-use Rattle.std.proofs.Common.{◌≡◌, ℕ, suc, min, ◌≤◌, List, get_or, unsigned_abs, cond, eqb, sym, ap₂, ◌∙◌, subst, refl, arith}
+use Rattle.std.proofs.Common.{ℕ, suc, min, ◌≤◌, List, get_or, unsigned_abs, cond, eqb, sym, ap₂, ◌∙◌, subst, refl, arith}
 use Rattle.std.proofs.Common.{ne_eqb}
 use Rattle.fractions.specs.Fraction.{Fraction, ◌-ℚ◌, ◌*ℚ◌}
 use Rattle.core_dict.proofs.Outcomes.{apart, leaves_same}

@@ -1,4 +1,4 @@
-use Rattle.std.proofs.Common.{◌≡◌, ℕ, ◌<◌, List, length, unsigned_abs, sym, ap, ◌∙◌, subst, refl}
+use Rattle.std.proofs.Common.{ℕ, ◌<◌, List, length, unsigned_abs, ap, ◌∙◌, subst, refl}
 use Rattle.fractions.specs.Fraction.{Fraction, ◌/ℚ◌}
 use Rattle.fractions.specs.Leaves.{OverLeaves}
 use Rattle.core_dict.proofs.Outcomes.{apart}

@@ -1,4 +1,4 @@
-use Rattle.std.proofs.Common.{arith, subst, sym, ◌∙◌}
+use Rattle.std.proofs.Common.{arith, subst, sym}
 use Rattle.core_sparse.specs.Items.{IsRising}
 use Rattle.core_sparse.specs.Steps.{IsExchanged}
 use Rattle.core_sparse.proofs.Making.{exchanged_more}

@@ -1,4 +1,4 @@
-use Rattle.std.proofs.Common.{◌≢◌, ℕ, ◌+◌, ◌<◌, List, unsigned_abs, sym, subst, arith, refl, ap, ◌∙◌, length, get_or}
+use Rattle.std.proofs.Common.{◌+◌, ◌<◌, List, unsigned_abs, sym, subst, arith, refl, ap, ◌∙◌, length}
 use Rattle.std.proofs.Math.Seq.{map-set_same}
 use Rattle.std.proofs.lemmas.List.{get_or_default}
 use Rattle.core_sparse.specs.Items.{IsKept}

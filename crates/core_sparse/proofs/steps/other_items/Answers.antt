@@ -1,4 +1,4 @@
-use Rattle.std.proofs.Common.{◌≡◌, ℕ, unsigned_abs, ap, ◌∙◌, refl}
+use Rattle.std.proofs.Common.{unsigned_abs, ap, ◌∙◌}
 use Rattle.fractions.specs.Fraction.{neg_ℚ}
 use Rattle.core_dict.proofs.Outcomes.{apart}
 use Rattle.core_sparse.proofs.Others.{same_fault, merge_left, merge_fits, merge_exact}

@@ -1,4 +1,4 @@
-use Rattle.std.proofs.Common.{ℕ, List, take, ◌+◌, sym, subst, refl}
+use Rattle.std.proofs.Common.{List, take, ◌+◌, sym, subst, refl}
 use Rattle.exact_frac.specs.Value64.{value64}
 use Rattle.exact_frac.specs.Value128.{value128}
 use Rattle.core_sparse.specs.Steps.{AreSame}

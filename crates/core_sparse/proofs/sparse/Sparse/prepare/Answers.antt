@@ -1,7 +1,6 @@
-use Rattle.std.proofs.Common.{◌≡◌, ◌≢◌, ℕ, ◌<◌, List, length, get_or, unsigned_abs, sym, ap, ◌∙◌, subst, refl, arith}
-use Rattle.std.specs.Vec.{with_items}
+use Rattle.std.proofs.Common.{◌≡◌, ◌≢◌, ℕ, ◌<◌, List, length, get_or, unsigned_abs, sym, ap, ◌∙◌, subst, arith}
 use Rattle.std.proofs.lemmas.List.{with_items_is}
-use Rattle.fractions.specs.Fraction.{Fraction, zero_q}
+use Rattle.fractions.specs.Fraction.{zero_q}
 use Rattle.core_dict.specs.Rows.{EntriesLeave}
 use Rattle.core_sparse.specs.Items.{IsKept, IsRising, number}
 use Rattle.core_sparse.specs.Steps.{entry_of, AreKept, AreAfter, IsMade, IsOwnAfter, OwnRowLeaves, RowLeaves}

@@ -1,4 +1,4 @@
-use Rattle.std.proofs.Common.{◌≡◌, ℕ, ◌<◌, List, length, get_or, sym, ap, ◌∙◌, subst}
+use Rattle.std.proofs.Common.{ℕ, ◌<◌, List, length, get_or, sym, ap, ◌∙◌, subst}
 use Rattle.fractions.specs.Fraction.{Fraction}
 use Rattle.core_sparse.specs.Items.{AreItemsOf}
 use Rattle.core_sparse.specs.Sparse.{rows_of, entry_of_row}

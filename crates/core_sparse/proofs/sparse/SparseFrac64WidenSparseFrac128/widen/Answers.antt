@@ -1,4 +1,4 @@
-use Rattle.std.proofs.Common.{◌≡◌, ℕ, ◌<◌, List, length, get_or, sym, ap, ◌∙◌, subst}
+use Rattle.std.proofs.Common.{ℕ, ◌<◌, List, length, get_or, sym, ap, ◌∙◌, subst}
 use Rattle.exact_frac.specs.Value64.{value64}
 use Rattle.exact_frac.specs.Value128.{value128}
 use Rattle.core_dict.specs.Variables.{HaveVariables}

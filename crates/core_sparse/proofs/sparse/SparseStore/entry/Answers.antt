@@ -1,4 +1,4 @@
-use Rattle.std.proofs.Common.{ℕ, ◌<◌, length, sym, ap, ◌∙◌, subst}
+use Rattle.std.proofs.Common.{ℕ, ◌<◌, sym, ap, ◌∙◌, subst}
 use Rattle.fractions.specs.Fraction.{Fraction}
 use Rattle.core_sparse.specs.Items.{IsRising, number}
 use Rattle.core_sparse.specs.SparseLaw.{slot_entries}
