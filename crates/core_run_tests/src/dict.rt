@@ -72,7 +72,7 @@ fn is_zero<E: Exact>(x: E) -> bool
     x.sign() == 0
 }
 
-fn pivot<E: Exact, D: Store<E>>(
+pub(crate) fn pivot<E: Exact, D: Store<E>>(
     rt: &impl Abort,
     alloc: Global,
     dict: &mut D,

@@ -13,3 +13,5 @@ mod refuse;
 mod rules;
 #[cfg(test)]
 mod runs;
+#[cfg(test)]
+mod sparse;

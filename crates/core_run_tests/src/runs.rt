@@ -12,7 +12,7 @@ use std::process::Abort;
 use std::test::Fail;
 
 /// A share sold on two days in two scenarios: its columns are what is closed on day 1 and on day 2, and the loss.
-const TWO_SCENARIOS: [([i64; 3], i64); 10] = [
+pub(crate) const TWO_SCENARIOS: [([i64; 3], i64); 10] = [
     ([1, 1, 0], 1),
     ([-1, -1, 0], -1),
     ([1, 0, 0], 1),

@@ -1,0 +1,11 @@
+mod Places
+mod Walks
+mod Merging
+mod Others
+mod Dividing
+mod Making
+mod Ready
+mod Exchanged
+mod Filled
+mod Widened
+mod Started

@@ -1,0 +1,5 @@
+use Rattle.core_sparse.proofs.Making.{ExchangedBelow}
+use Rattle.core_sparse.proofs.steps.exchange_all.Given as goal
+
+abbrev pub invariant-loop-i : goal.invariant-loop-i
+invariant-loop-i g l = ExchangedBelow g.E.Exact.value l.col l.fn.slots l.slots l.i

@@ -1,0 +1,57 @@
+// Where an item of a row stands.
+ghost use Rattle.std.specs.Prelude.{◌≡◌, ◌≤◌, suc, get_or, length};
+ghost use Rattle.core_sparse.specs.Items.{columns, number as number_of, IsRising, Stands};
+
+use crate::row::Item;
+use exact_frac::Exact;
+
+/// The column of the item at a place, or another where there is none.
+pub fn column<E: Exact>(items: &[Item<E>], place: usize, past: usize) -> usize
+    ensures { result ≡ get_or (columns items.now) place past }
+{
+    if place < items.len() {
+        items[place].col
+    } else {
+        past
+    }
+}
+
+// The place of the first item that does not stand before a column.
+fn place_of<E: Exact>(items: &[Item<E>], col: usize) -> usize
+    requires { IsRising items.now }
+    ensures { Stands items.now col result }
+{
+    let mut low = 0;
+    let mut high = items.len();
+    while low < high {
+        let middle = low + (high - low) / 2;
+        if items[middle].col < col {
+            low = middle + 1;
+        } else {
+            high = middle;
+        }
+    }
+    low
+}
+
+/// The number in a column, for a walk that stands there, and the place where the walk goes on.
+pub fn take<E: Exact>(items: &[Item<E>], place: usize, col: usize) -> (E, usize)
+    requires rising { IsRising items.now }
+    requires stands { Stands items.now col place }
+    ensures value { E.value result.0 ≡ number_of E.value items.now col }
+    ensures stands { Stands items.now (suc col) result.1 }
+{
+    if place < items.len() && items[place].col == col {
+        return (items[place].value, place + 1);
+    }
+    (E::zero(), place)
+}
+
+/// The number in a column.
+pub fn number<E: Exact>(items: &Vec<Item<E>>, col: usize) -> E
+    requires { IsRising items.now.items }
+    ensures { E.value result ≡ number_of E.value items.now.items col }
+{
+    let (value, _place) = take(items, place_of(items, col), col);
+    value
+}

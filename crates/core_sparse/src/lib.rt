@@ -1,0 +1,17 @@
+//! Dictionaries that keep only the entries that are not 0.
+#![tactic(auto)]
+
+mod fault;
+mod fill;
+mod find;
+mod keep;
+mod merge;
+mod numbers;
+mod own;
+mod row;
+mod sparse;
+mod steps;
+mod widen;
+
+pub use row::Item;
+pub use sparse::Sparse;
