@@ -52,7 +52,8 @@ pub trait Shelf {
         ensures kept { KeepsBytes (state self.old) (state self.new) }
         ensures counts { KeepsCounts (state self.old) (state self.new) }
         ensures fits { IfOk result (λ n. n ≤ length into.new) }
-        ensures gives { IfOk result (λ n. GivesIfTold ((state self.old).told name.now) at n into.new) }
+        ensures gives { IfOk result (λ n. GivesIfTold ((state self.old).told name.now) at n
+            into.new) }
         ensures cause { result ≡ Err ShelfFault.Failed
             → ReadFailed (state self.old) (state self.new) name.now };
 }
