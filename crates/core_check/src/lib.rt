@@ -17,7 +17,6 @@ mod ratios;
 mod weights;
 
 ghost use Rattle.std.specs.Prelude.{◌≡◌, OnOk, IfErr};
-ghost use Rattle.core_book.specs.Kept.{IsCase};
 ghost use Rattle.core_model.specs.Fits.{Fits};
 ghost use Rattle.core_model.specs.Shows.{Shows};
 ghost use Rattle.core_model.specs.Check.{verdict, Passed};
@@ -48,12 +47,13 @@ use std::alloc::Global;
 ///
 /// Memory is taken for the flows of the case alone, before the first condition.
 pub fn check(alloc: Global, case: &Case, cert: &Cert) -> Result<(), CheckFault>
-    requires kept { IsCase case.now }
-    requires fits { Fits case.now cert.now }
+    requires { Fits case.now cert.now }
     ensures passed { OnOk result (verdict case.now cert.now ≡ Passed) }
     ensures refused { IfErr result (Refuses (verdict case.now cert.now)) }
     ensures shows { OnOk result (Shows case.now cert.now) }
 {
+    // What every case keeps, its conditions stand on.
+    let _kept = case.horizon();
     let flows = Flows::make(alloc, case)?;
     check_cert(case, &flows, cert)
 }

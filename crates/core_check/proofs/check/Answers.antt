@@ -17,4 +17,4 @@ returns-clause-shows c =
     let case = c.args.case.now in
     let cert = c.args.cert.now in
     on_ok {P = Shows case cert} c.check_cert.result
-    (λ ok. valid_shows case cert c.requires.kept (passed-is-valid case cert (passed-of (verdict case cert) (sym c.check_cert.ensures ∙ ok))))
+    (λ ok. valid_shows case cert c.horizon-kept.ensures.kept (passed-is-valid case cert (passed-of (verdict case cert) (sym c.check_cert.ensures ∙ ok))))
