@@ -1,5 +1,5 @@
--- A case that passes the test is a book of one future, and one text states one case.
-use Rattle.std.proofs.Common.{◌≡◌, refl, sym, ◌∙◌, ap, ℕ, zero, suc, List, [], ◌∷◌, length, get_or, ℤ, pos, arith, Bool, true, false, ◌&&◌, ◌||◌, ◌==◌, not, Option, Some, None, Result, Ok, Err}
+-- A case that passes the test is a book of one future.
+use Rattle.std.proofs.Common.{◌≡◌, refl, ◌∙◌, ap, ℕ, zero, suc, List, [], ◌∷◌, length, get_or, ℤ, pos, arith, Bool, true, false, ◌&&◌, ◌||◌, ◌==◌, not}
 use Rattle.std.proofs.lemmas.Bool.{eqb-true}
 use Rattle.std.proofs.lemmas.Bool.Decides.{Decides-int_eq}
 use Rattle.std.proofs.lemmas.List.Elements.{All-head}
@@ -10,13 +10,11 @@ use Rattle.core_days.specs.Days.{is_open_on}
 use Rattle.core_book.specs.View.{CaseView, date, instrument, instrument_of, tiers, has_holidays, has_cash}
 use Rattle.core_book.specs.Kept.{IsCase, IsMember}
 use Rattle.core_book.specs.declared.parts.Member.{Member}
-use Rattle.core_case.specs.Stated.{case_of_bytes}
 use Rattle.core_book.specs.declared.parts.Kind.{Kind}
 use Rattle.core_book.specs.declared.parts.Kind.TheVariants.{Future, Security}
 use Rattle.core_book.specs.declared.parts.Side.{Side}
 use Rattle.core_book.specs.declared.parts.Side.TheVariants.{Position, Collateral}
 use Rattle.core_top.specs.OneFuture.{IsOneFuture, is_future, is_position, is_one_position, is_one_future}
-use Rattle.core_top.specs.Due.{HasCase}
 
 -- both parts of a test that passed
 first-true : (a b : Bool) → a && b ≡ true → a ≡ true
@@ -125,9 +123,3 @@ one-future c kept e =
       no_member = no-members c kept no_pool;
       no_cash = λ t. each-zero c.cash t no_cash;
     }
-
--- one shelf tells one case under a name
-pub stated-unique : (told : List ℕ → Option (List ℕ)) (name : List ℕ) (c c' : CaseView) → HasCase told name c → HasCase told name c' → c ≡ c'
-stated-unique told name c c' has has' =
-    let same : has.bytes ≡ has'.bytes = ap (λ (o : Option (List ℕ)). elim o [ Some bytes ↦ bytes | None ↦ [] ]) (sym has.told_as ∙ has'.told_as) in
-    ap (λ (r : Result CaseView (ℕ × ℕ)). elim r [ Ok x ↦ x | Err f ↦ c ]) (sym has.states ∙ ap case_of_bytes same ∙ has'.states)

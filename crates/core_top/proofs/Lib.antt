@@ -4,6 +4,11 @@ mod OneFutureWeights
 mod OneFutureShows
 mod FirstForm
 mod OneFutureFits
-mod Said
-mod Dues
-mod Owed
+mod Lines
+mod AtFile
+mod Statuses
+mod MarginDue
+mod CheckDue
+mod Commands
+mod Owing
+mod Steps

@@ -1,5 +1,9 @@
 pub mod OneFuture
 pub mod Words
-pub mod Due
-pub mod Steps
+pub mod Answers
+pub mod Files
+pub mod Around
+pub mod Margin
+pub mod Check
+pub mod Commands
 pub mod Headline

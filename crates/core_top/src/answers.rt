@@ -1,18 +1,119 @@
-// The answers, each a status and a text.
+// The answers of a call, and the text of each.
 ghost use Rattle.std.specs.Prelude.{◌≡◌, IfOk};
 ghost use Rattle.core_rows.specs.Fields.{row_text};
 ghost use Rattle.core_rows.specs.Written.{IsPlainRow};
-ghost use Rattle.core_book.specs.Kept.{IsCase};
-ghost use Rattle.core_cert.specs.Written.{cert_text};
-ghost use Rattle.core_top.specs.OneFuture.{IsOneFuture, one_future_cert};
-ghost use Rattle.core_top.specs.Due.{bad_case_said, case_fault_said, case_status, case_text, cert_status, usage_said};
+ghost use Rattle.core_top.specs.Answers.{answer_status, answer_text, cert_status, fields_of, line_status, line_text, word_of, Says};
 
-use crate::one_future::{is_one_future, one_future_cert};
-use core_case::Case;
-use core_cert::write_cert;
 use core_model::Cert;
 use core_rows::{Fields, put_row};
 use std::alloc::{AllocError, Global};
+
+/// A file that a command reads.
+#[derive(Clone, Copy, Debug)]
+pub(crate) enum File {
+    Case,
+    Cert,
+}
+
+impl File {
+    /// The word that is printed of it.
+    fn word(self) -> &'static [u8]
+        ensures { result.now ≡ word_of self }
+    {
+        match self {
+            File::Case => b"case",
+            File::Cert => b"cert",
+        }
+    }
+}
+
+/// An answer of one line.
+#[derive(Clone, Copy, Debug)]
+pub(crate) enum Line {
+    /// 2 `usage`.
+    Usage,
+    /// 6 `fault,read,FILE`.
+    Unread(File),
+    /// 3 or 9 `bad,FILE,ROW,CODE`.
+    Bad { file: File, row: u32, code: u8 },
+    /// 0 `accepted,closes`.
+    AcceptedCloses,
+    /// 0 `accepted,cannot`.
+    AcceptedCannot,
+    /// 10 `refused,CONDITION,PLACE`.
+    Refused { condition: u8, place: u32 },
+    /// 4 `wide,check,CONDITION,PLACE`.
+    Wide { condition: u8, place: u32 },
+}
+
+impl Line {
+    fn status(self) -> u8
+        ensures { result ≡ line_status self }
+    {
+        match self {
+            Line::AcceptedCloses | Line::AcceptedCannot => 0,
+            Line::Usage => 2,
+            Line::Bad {
+                file: File::Case,
+                ..
+            } => 3,
+            Line::Wide { .. } => 4,
+            Line::Unread(_) => 6,
+            Line::Bad {
+                file: File::Cert,
+                ..
+            } => 9,
+            Line::Refused { .. } => 10,
+        }
+    }
+
+    fn fields(self, alloc: Global) -> Result<Fields, AllocError>
+        ensures { IfOk result (λ fields. fields ≡ fields_of self) }
+    {
+        let mut fields = Fields::make(alloc);
+        match self {
+            Line::Usage => fields.push(b"usage")?,
+            Line::Unread(file) => {
+                fields.push(b"fault")?;
+                fields.push(b"read")?;
+                fields.push(file.word())?;
+            }
+            Line::Bad { file, row, code } => {
+                fields.push(b"bad")?;
+                fields.push(file.word())?;
+                fields.push_number(i128::from(row))?;
+                fields.push_number(i128::from(code))?;
+            }
+            Line::AcceptedCloses => {
+                fields.push(b"accepted")?;
+                fields.push(b"closes")?;
+            }
+            Line::AcceptedCannot => {
+                fields.push(b"accepted")?;
+                fields.push(b"cannot")?;
+            }
+            Line::Refused { condition, place } => {
+                fields.push(b"refused")?;
+                fields.push_number(i128::from(condition))?;
+                fields.push_number(i128::from(place))?;
+            }
+            Line::Wide { condition, place } => {
+                fields.push(b"wide")?;
+                fields.push(b"check")?;
+                fields.push_number(i128::from(condition))?;
+                fields.push_number(i128::from(place))?;
+            }
+        }
+        Ok(fields)
+    }
+}
+
+/// What a call answers: a line, or a text that its command has made.
+#[derive(Drop)]
+pub(crate) enum Answer {
+    Said(Line),
+    Printed { status: u8, text: Vec<u8> },
+}
 
 /// What is due: a status and the text of the output.
 #[derive(Drop)]
@@ -21,85 +122,35 @@ pub(crate) struct Due {
     pub(crate) text: Vec<u8>,
 }
 
-/// What is due, or that memory ran out before it was made.
-pub(crate) type Answer = Result<Due, AllocError>;
-
-/// A record as the whole output.
-pub(crate) fn said(alloc: Global, status: u8, fields: &Fields) -> Answer
-    requires { IsPlainRow fields.now }
-    ensures { IfOk result (λ due. (due.status ≡ status) × (due.text.items ≡ row_text fields.now)) }
+/// A line as the whole output.
+pub(crate) fn said(alloc: Global, line: Line) -> Result<Due, AllocError>
+    ensures { IfOk result (Says (line_status line) (line_text line)) }
 {
+    let fields = line.fields(alloc)?;
     let mut text = Vec::new(alloc);
-    put_row(alloc, &mut text, fields)?;
-    Ok(Due { status, text })
+    put_row(alloc, &mut text, &fields)?;
+    Ok(Due {
+        status: line.status(),
+        text,
+    })
 }
 
-/// The answer to words that are no command.
-pub(crate) fn usage(alloc: Global) -> Answer
-    ensures { IfOk result (λ due. (due.status ≡ 2) × (due.text.items ≡ usage_said)) }
+/// An answer as the whole output.
+pub(crate) fn output(alloc: Global, answer: Answer) -> Result<Due, AllocError>
+    ensures { IfOk result (Says (answer_status answer) (answer_text answer)) }
 {
-    let mut fields = Fields::make(alloc);
-    fields.push(b"usage")?;
-    said(alloc, 2, &fields)
+    match answer {
+        Answer::Said(line) => said(alloc, line),
+        Answer::Printed { status, text } => Ok(Due { status, text }),
+    }
 }
 
-/// The answer where the case could not be read for a fault of the shelf.
-pub(crate) fn case_fault(alloc: Global) -> Answer
-    ensures { IfOk result (λ due. (due.status ≡ 6) × (due.text.items ≡ case_fault_said)) }
-{
-    let mut fields = Fields::make(alloc);
-    fields.push(b"fault")?;
-    fields.push(b"read")?;
-    fields.push(b"case")?;
-    said(alloc, 6, &fields)
-}
-
-/// The answer to a case with a fault.
-pub(crate) fn bad_case(alloc: Global, row: u32, code: u8) -> Answer
-    ensures { IfOk result (λ due. (due.status ≡ 3) × (due.text.items ≡ bad_case_said row code)) }
-{
-    let mut fields = Fields::make(alloc);
-    fields.push(b"bad")?;
-    fields.push(b"case")?;
-    fields.push_number(i128::from(row))?;
-    fields.push_number(i128::from(code))?;
-    said(alloc, 3, &fields)
-}
-
-/// The status of a certificate.
-fn cert_status(cert: &Cert) -> u8
+/// The status with which a certificate is printed.
+pub(crate) fn cert_status(cert: &Cert) -> u8
     ensures { result ≡ cert_status cert.now }
 {
     match cert {
         Cert::Closes { .. } => 0,
         Cert::Cannot { .. } => 1,
-    }
-}
-
-/// The margin of a book of one future.
-fn one_future_margin(alloc: Global, case: &Case) -> Answer
-    requires kept { IsCase case.now }
-    requires one { IsOneFuture case.now }
-    ensures { IfOk result (λ due. (due.status ≡ cert_status (one_future_cert case.now))
-        × (due.text.items ≡ cert_text case.now (one_future_cert case.now))) }
-{
-    let cert = one_future_cert(alloc, case)?;
-    let text = write_cert(alloc, case, &cert)?;
-    Ok(Due {
-        status: cert_status(&cert),
-        text,
-    })
-}
-
-/// The answer of `margin` to a case.
-pub(crate) fn margin(alloc: Global, case: &Case) -> Answer
-    requires { IsCase case.now }
-    ensures { IfOk result (λ due. (due.status ≡ case_status case.now)
-        × (due.text.items ≡ case_text case.now)) }
-{
-    if is_one_future(case) {
-        one_future_margin(alloc, case)
-    } else {
-        bad_case(alloc, 0, 99)
     }
 }

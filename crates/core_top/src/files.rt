@@ -1,91 +1,115 @@
-// The files of a call: the case and the certificate under their names.
-ghost use Rattle.std.specs.Prelude.{◌≡◌, ◌≤◌, ℕ, List, Ok, IfOk, IfErr, length};
-ghost use Rattle.core_io.specs.Causes.{Rose};
-ghost use Rattle.core_book.specs.Kept.{IsCase};
+// The files of a call: what they state under their names, or the line where they state nothing.
+ghost use Rattle.std.specs.Prelude.{◌≡◌, ◌≤◌, Ok, IfOk, IfErr, IfSome, Some, length};
+ghost use Rattle.core_io.specs.States.{KeepsBytes, KeepsCounts, ReadFailed};
 ghost use Rattle.core_case.specs.Stated.{case_of_bytes};
 ghost use Rattle.core_model.specs.Fits.{Fits};
 ghost use Rattle.core_cert.specs.Stated.{cert_of_bytes};
-ghost use Rattle.core_top.specs.Steps.{CaseUnder, CertUnder, EndsAtCase, EndsAtCert, RefusesCase, RefusesCert};
+ghost use Rattle.core_top.specs.Answers.{Ends};
+ghost use Rattle.core_top.specs.Around.{Between};
+ghost use Rattle.core_top.specs.Files.{file_limit, AtCase, AtCert, IsUnread, Nothing, ReadAs};
 
-use crate::answers::{self, Answer};
-use crate::checked;
+use crate::answers::{File, Line};
+use crate::stop::Stop;
 use core_case::{Case, CaseFault, read_case};
 use core_cert::{CertFault, read_cert};
 use core_io::{ReadAll, Shelf, read_all};
 use core_model::Cert;
-use std::alloc::{AllocError, Global};
+use std::alloc::Global;
 
 /// The greatest length of a file, in bytes.
 const FILE_LIMIT: u64 = 4_194_304;
 
-/// The case that the bytes state, or the answer where they state none.
-fn stated_case(alloc: Global, bytes: &[u8]) -> Result<Case, Answer>
-    requires { length bytes.now ≤ 4194304 }
-    ensures kept { IfOk result IsCase }
-    ensures states { IfOk result (λ case. case_of_bytes bytes.now ≡ Ok case) }
-    ensures refused { IfErr result (λ answer. IfOk answer
-        (λ due. RefusesCase (case_of_bytes bytes.now) due.status due.text.items)) }
-{
-    match read_case(alloc, bytes) {
-        Ok(case) => Ok(case),
-        Err(CaseFault::Bad { row, code }) => Err(answers::bad_case(alloc, row, code)),
-        Err(CaseFault::NoMemory) => Err(Err(AllocError)),
-    }
-}
-
-/// The case under a name, or the answer where none is read.
-pub(crate) fn case_under<S: Shelf>(alloc: Global, shelf: &mut S, name: &str) -> Result<Case, Answer>
-    ensures kept { IfOk result IsCase }
-    ensures states { IfOk result (λ case. CaseUnder (S.told shelf.old name.now) case) }
-    ensures ends { IfErr result (λ answer. IfOk answer
-        (λ due. EndsAtCase (S.told shelf.old name.now)
-        (Rose (S.faults shelf.old name.now) (S.faults shelf.new name.now))
-        due.status due.text.items)) }
-    ensures told { (n : List ℕ) → S.told shelf.new n ≡ S.told shelf.old n }
-    ensures counts { (n : List ℕ) → S.faults shelf.old n ≤ S.faults shelf.new n }
+/// The bytes under the name of a file.
+fn bytes_under<S: Shelf>(
+    alloc: Global,
+    shelf: &mut S,
+    file: File,
+    name: &str,
+) -> Result<Vec<u8>, Stop>
+    ensures bytes { IfOk result (λ v. IfSome ((S.state shelf.old).told name.now)
+        (λ bytes. v.items ≡ bytes)) }
+    ensures at_most { IfOk result (λ v. length v.items ≤ file_limit) }
+    ensures ends { IfErr result (Ends (IsUnread file ((S.state shelf.old).told name.now)
+        (ReadFailed (S.state shelf.old) (S.state shelf.new) name.now))) }
+    ensures kept { KeepsBytes (S.state shelf.old) (S.state shelf.new) }
+    ensures counts { KeepsCounts (S.state shelf.old) (S.state shelf.new) }
 {
     match read_all(alloc, shelf, name, FILE_LIMIT) {
-        Ok(bytes) => stated_case(alloc, &bytes),
-        Err(ReadAll::Fault) => Err(answers::case_fault(alloc)),
-        Err(ReadAll::Long) => Err(answers::bad_case(alloc, 0, 0)),
-        Err(ReadAll::NoMemory) => Err(Err(AllocError)),
+        Ok(bytes) => Ok(bytes),
+        Err(ReadAll::Fault) => Err(Stop::Said(Line::Unread(file))),
+        Err(ReadAll::Long) => Err(Stop::Said(Line::Bad {
+            file,
+            row: 0,
+            code: 0,
+        })),
+        Err(ReadAll::NoMemory) => Err(Stop::NoMemory),
     }
 }
 
-/// The certificate that the bytes state for a case, or the answer where they state none.
-fn stated_cert(alloc: Global, case: &Case, bytes: &[u8]) -> Result<Cert, Answer>
-    requires { length bytes.now ≤ 4194304 }
-    ensures fits { IfOk result (λ cert. Fits case.now cert) }
-    ensures states { IfOk result (λ cert. cert_of_bytes case.now bytes.now ≡ Ok cert) }
-    ensures refused { IfErr result (λ answer. IfOk answer
-        (λ due. RefusesCert (cert_of_bytes case.now bytes.now) due.status due.text.items)) }
+impl From<CaseFault> for Stop {
+    ghost use Rattle.std.specs.Prelude.{◌≡◌};
+    ghost use Rattle.core_top.specs.Answers.{case_stop};
+
+    ghost from_gives = { λ fault stop. stop ≡ case_stop fault };
+
+    fn from(fault: CaseFault) -> Stop {
+        match fault {
+            CaseFault::Bad { row, code } => Stop::Said(Line::Bad {
+                file: File::Case,
+                row,
+                code,
+            }),
+            CaseFault::NoMemory => Stop::NoMemory,
+        }
+    }
+}
+
+impl From<CertFault> for Stop {
+    ghost use Rattle.std.specs.Prelude.{◌≡◌};
+    ghost use Rattle.core_top.specs.Answers.{cert_stop};
+
+    ghost from_gives = { λ fault stop. stop ≡ cert_stop fault };
+
+    fn from(fault: CertFault) -> Stop {
+        match fault {
+            CertFault::Bad { row, code } => Stop::Said(Line::Bad {
+                file: File::Cert,
+                row,
+                code,
+            }),
+            CertFault::NoMemory => Stop::NoMemory,
+        }
+    }
+}
+
+/// The case under a name.
+pub(crate) fn case_under<S: Shelf>(alloc: Global, shelf: &mut S, name: &str) -> Result<Case, Stop>
+    ensures states { IfOk result (λ case. ReadAs case_of_bytes
+        ((S.state shelf.old).told name.now) (Ok case)) }
+    ensures ends { IfErr result (Ends (Between (S.state shelf.old) (S.state shelf.new)
+        (λ told rose. AtCase told rose name.now Nothing))) }
+    ensures kept { KeepsBytes (S.state shelf.old) (S.state shelf.new) }
+    ensures counts { KeepsCounts (S.state shelf.old) (S.state shelf.new) }
 {
-    match read_cert(alloc, case, bytes) {
-        Ok(cert) => Ok(cert),
-        Err(CertFault::Bad { row, code }) => Err(checked::bad_cert(alloc, row, code)),
-        Err(CertFault::NoMemory) => Err(Err(AllocError)),
-    }
+    let bytes = bytes_under(alloc, shelf, File::Case, name)?;
+    Ok(read_case(alloc, &bytes)?)
 }
 
-/// The certificate for a case under a name, or the answer where none is read.
+/// The certificate for a case under a name.
 pub(crate) fn cert_under<S: Shelf>(
     alloc: Global,
     shelf: &mut S,
     case: &Case,
     name: &str,
-) -> Result<Cert, Answer>
+) -> Result<Cert, Stop>
     ensures fits { IfOk result (λ cert. Fits case.now cert) }
-    ensures states { IfOk result (λ cert. CertUnder (S.told shelf.old name.now) case.now cert) }
-    ensures ends { IfErr result (λ answer. IfOk answer
-        (λ due. EndsAtCert case.now (S.told shelf.old name.now)
-        (Rose (S.faults shelf.old name.now) (S.faults shelf.new name.now))
-        due.status due.text.items)) }
-    ensures counts { (n : List ℕ) → S.faults shelf.old n ≤ S.faults shelf.new n }
+    ensures states { IfOk result (λ cert. ReadAs (cert_of_bytes case.now)
+        ((S.state shelf.old).told name.now) (Ok cert)) }
+    ensures ends { IfErr result (Ends (Between (S.state shelf.old) (S.state shelf.new)
+        (λ told rose. AtCert told rose name.now case.now Nothing))) }
+    ensures kept { KeepsBytes (S.state shelf.old) (S.state shelf.new) }
+    ensures counts { KeepsCounts (S.state shelf.old) (S.state shelf.new) }
 {
-    match read_all(alloc, shelf, name, FILE_LIMIT) {
-        Ok(bytes) => stated_cert(alloc, case, &bytes),
-        Err(ReadAll::Fault) => Err(checked::cert_fault(alloc)),
-        Err(ReadAll::Long) => Err(checked::bad_cert(alloc, 0, 0)),
-        Err(ReadAll::NoMemory) => Err(Err(AllocError)),
-    }
+    let bytes = bytes_under(alloc, shelf, File::Cert, name)?;
+    Ok(read_cert(alloc, case, &bytes)?)
 }

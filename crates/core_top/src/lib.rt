@@ -1,66 +1,53 @@
 //! The top call: all that the program does, over a shelf and a sink.
 #![tactic(auto)]
 
-ghost use Rattle.std.specs.Prelude.{◌≡◌, ◌≤◌, ℕ, List, Some, IfOk};
-ghost use Rattle.core_io.specs.Causes.{Rose};
-ghost use Rattle.core_top.specs.Words.{Margin, Check, command_of, words_of};
-ghost use Rattle.core_top.specs.Steps.{Owes};
-ghost use Rattle.core_top.specs.Headline.{around, HasCauses, CheckOwes, IsComplete, IsExact, MarginOwes};
+ghost use Rattle.std.specs.Prelude.{IfOk};
+ghost use Rattle.core_io.specs.States.{KeepsBytes, KeepsCounts, KeepsCount};
+ghost use Rattle.core_top.specs.Words.{words_of};
+ghost use Rattle.core_top.specs.Answers.{ComesTo};
+ghost use Rattle.core_top.specs.Around.{Between, around};
+ghost use Rattle.core_top.specs.Commands.{command_of, IsDue};
+ghost use Rattle.core_top.specs.Headline.{OneAnswerIsDue, Owes};
 
-use answers::Answer;
-use core_io::{Shelf, Sink, write_all};
-use files::{case_under, cert_under};
-use std::alloc::Global;
-use words::Command;
+use answers::{Answer, Due, Line};
+use core_io::{Failed, Shelf, Sink, write_all};
+use std::alloc::{AllocError, Global};
+use stop::Stop;
 
 mod answers;
-mod checked;
+mod check;
 mod files;
+mod margin;
 mod one_future;
-mod words;
+mod stop;
 
-/// What `margin` owes on the case under a name.
-fn margin<S: Shelf>(alloc: Global, shelf: &mut S, name: &str) -> Answer
-    ensures owes { IfOk result (λ due. Owes (S.told shelf.old)
-        (λ n. Rose (S.faults shelf.old n) (S.faults shelf.new n)) (Some (Margin name.now))
-        due.status due.text.items) }
-    ensures counts { (n : List ℕ) → S.faults shelf.old n ≤ S.faults shelf.new n }
+/// The answer of the command that the words are.
+fn answer<S: Shelf>(alloc: Global, words: &[String], shelf: &mut S) -> Result<Answer, Stop>
+    ensures due { ComesTo (Between (S.state shelf.old) (S.state shelf.new)
+        (IsDue (command_of (words_of words.now)))) result }
+    ensures kept { KeepsBytes (S.state shelf.old) (S.state shelf.new) }
+    ensures counts { KeepsCounts (S.state shelf.old) (S.state shelf.new) }
 {
-    match case_under(alloc, shelf, name) {
-        Ok(case) => answers::margin(alloc, &case),
-        Err(answer) => answer,
+    if let Some(asked) = margin::words_of(words) {
+        margin::answer(alloc, shelf, &asked)
+    } else if let Some(asked) = check::words_of(words) {
+        check::answer(alloc, shelf, &asked)
+    } else {
+        Ok(Answer::Said(Line::Usage))
     }
 }
 
-/// What `check` owes on the case and the certificate under two names.
-fn check<S: Shelf>(alloc: Global, shelf: &mut S, case_name: &str, cert_name: &str) -> Answer
-    ensures owes { IfOk result (λ due. Owes (S.told shelf.old)
-        (λ n. Rose (S.faults shelf.old n) (S.faults shelf.new n))
-        (Some (Check case_name.now cert_name.now)) due.status due.text.items) }
-    ensures counts { (n : List ℕ) → S.faults shelf.old n ≤ S.faults shelf.new n }
+/// The status and the text that are due to the words.
+fn due<S: Shelf>(alloc: Global, words: &[String], shelf: &mut S) -> Result<Due, AllocError>
+    ensures due { IfOk result (λ due. Between (S.state shelf.old) (S.state shelf.new)
+        (IsDue (command_of (words_of words.now))) due.status due.text.items) }
+    ensures kept { KeepsBytes (S.state shelf.old) (S.state shelf.new) }
+    ensures counts { KeepsCounts (S.state shelf.old) (S.state shelf.new) }
 {
-    let case = match case_under(alloc, shelf, case_name) {
-        Ok(case) => case,
-        Err(no_case) => return no_case,
-    };
-    let cert = match cert_under(alloc, shelf, &case, cert_name) {
-        Ok(cert) => cert,
-        Err(no_cert) => return no_cert,
-    };
-    checked::judged(alloc, &case, &cert)
-}
-
-/// What the words owe.
-fn due<S: Shelf>(alloc: Global, words: &Vec<String>, shelf: &mut S) -> Answer
-    ensures owes { IfOk result (λ due. Owes (S.told shelf.old)
-        (λ n. Rose (S.faults shelf.old n) (S.faults shelf.new n))
-        (command_of (words_of words.now.items)) due.status due.text.items) }
-    ensures counts { (n : List ℕ) → S.faults shelf.old n ≤ S.faults shelf.new n }
-{
-    match words::command_of(words) {
-        Some(Command::Margin { case }) => margin(alloc, shelf, case),
-        Some(Command::Check { case, cert }) => check(alloc, shelf, case, cert),
-        None => answers::usage(alloc),
+    match answer(alloc, words, shelf) {
+        Ok(answer) => answers::output(alloc, answer),
+        Err(Stop::Said(line)) => answers::said(alloc, line),
+        Err(Stop::NoMemory) => Err(AllocError),
     }
 }
 
@@ -75,44 +62,33 @@ fn due<S: Shelf>(alloc: Global, words: &Vec<String>, shelf: &mut S) -> Answer
 ///
 /// Any other words are answered with 2. The case is read and judged first (6 and 3), then the certificate (6 and 9), and
 /// then the work is done. The output is built first and then written to the sink (7). Where memory runs out the answer
-/// is 8, and nothing is written.
+/// is 8, and the sink is as it was.
+///
+/// What it owes is a record with a field for each sentence. `margin`: for every book of one future that is read, an
+/// admissible calendar whose worst loss no admissible calendar undercuts, with its loss and weights that show it, or
+/// weights showing that no calendar is admissible; the text is read as this certificate, and no place of its check
+/// fails. `check`: for every case, what an accepted certificate states is so, whoever made it. `exact`: each answer is
+/// one that is due. `complete`: where nothing failed it is due by the words and the bytes alone. `causes`: what a status
+/// says by itself. `kept`, `shelf_counts`, `sink_count`: no bytes on the shelf change, and no count falls.
 pub fn core_call<S: Shelf, K: Sink>(
     alloc: Global,
     words: &Vec<String>,
     shelf: &mut S,
     sink: &mut K,
 ) -> u8
-    // For every book of one future that is read: an admissible calendar whose worst loss no admissible calendar
-    // undercuts, with its loss and weights that show it, or weights showing that no calendar is admissible; the text is
-    // read as this certificate, and no place of its check fails. Otherwise a named cause.
-    ensures margin { MarginOwes (around (S.told shelf.old) (S.faults shelf.old) (S.faults shelf.new)
-        (K.faults sink.old) (K.faults sink.new) (K.written sink.old) (K.written sink.new))
-        (words_of words.now.items) result }
-
-    // For every case: what an accepted certificate states is so, whoever made it. The calendar is admissible and no
-    // admissible calendar undercuts its worst loss, or no calendar is admissible. Otherwise a named cause.
-    ensures check { CheckOwes (around (S.told shelf.old) (S.faults shelf.old) (S.faults shelf.new)
-        (K.faults sink.old) (K.faults sink.new) (K.written sink.old) (K.written sink.new))
-        (words_of words.now.items) result }
-
-    // Each answer comes exactly where it is due, and where nothing failed it is due by the words and the bytes alone.
-    ensures exact { IsExact (around (S.told shelf.old) (S.faults shelf.old) (S.faults shelf.new)
-        (K.faults sink.old) (K.faults sink.new) (K.written sink.old) (K.written sink.new))
-        (words_of words.now.items) result }
-    ensures complete { IsComplete (around (S.told shelf.old) (S.faults shelf.old)
-        (S.faults shelf.new) (K.faults sink.old) (K.faults sink.new)
-        (K.written sink.old) (K.written sink.new)) (words_of words.now.items) result }
-
-    // Causes that hold whatever the shelf tells.
-    ensures causes { HasCauses (around (S.told shelf.old) (S.faults shelf.old) (S.faults shelf.new)
-        (K.faults sink.old) (K.faults sink.new) (K.written sink.old) (K.written sink.new))
-        (words_of words.now.items) result }
+    ensures { Owes (around (S.state shelf.old) (S.state shelf.new) (K.state sink.old)
+        (K.state sink.new)) (words_of words.now.items) result }
 {
     match due(alloc, words, shelf) {
-        Err(_) => 8,
+        Err(AllocError) => 8,
         Ok(due) => match write_all(sink, &due.text) {
             Ok(()) => due.status,
-            Err(_) => 7,
+            Err(Failed) => 7,
         },
     }
 }
+
+/// The law of what is due: to given words and told bytes, where no count rose, one status and one text alone are.
+pub fn one_answer_law()
+    ensures { OneAnswerIsDue }
+{}

@@ -1,21 +1,20 @@
-use Rattle.std.proofs.Common.{rules}
-use Rattle.std.proofs.lemmas.Result.{IfErr-weaker, IfOk-weaker}
-use Rattle.core_io.specs.Causes.{Rose}
-use Rattle.core_top.proofs.Dues.{unread-case, long-case, refused-case}
+use Rattle.std.proofs.Common.{refl}
+use Rattle.std.proofs.lemmas.Result.{err_from_is_err_and}
+use Rattle.core_io.specs.States.{ReadFailed}
+use Rattle.core_case.specs.Stated.{case_of_bytes}
+use Rattle.core_top.specs.declared.answers.File.TheVariants as files
+use Rattle.core_top.specs.Answers.{case_stop}
+use Rattle.core_top.proofs.Steps.{unread-ends, case-ends}
 use Rattle.core_top.proofs.files.case_under.Goals as goal
 
-pub returns-in-Ok-clause-ends : goal.returns-in-Ok-clause-ends
-returns-in-Ok-clause-ends g c =
-    IfErr-weaker c.stated_case.result _ _
-    (λ answer h. IfOk-weaker answer _ _ (λ due e. refused-case _ _ c.in-Ok.bytes.items due.status due.text.items c.in-Ok.ensures.bytes c.in-Ok.ensures.at_most e) h)
-    (rw c.deref.ensures.value at c.stated_case.ensures.refused)
+pub returns-in_err-bytes-clause-ends : goal.returns-in_err-bytes-clause-ends
+returns-in_err-bytes-clause-ends g c =
+    let p = err_from_is_err_and c.from_residual.result c.from_residual.ensures.1 in
+    rw (p.1, p.2) (unread-ends files.Case case_of_bytes _ _ c.in_err-bytes.field-0.0 c.in_err-bytes.ensures.ends)
 
-pub returns-in-Err-Fault-clause-ends : goal.returns-in-Err-Fault-clause-ends
-returns-in-Err-Fault-clause-ends g c =
-    IfOk-weaker c.case_fault.result _ _ (λ due e. unread-case (g.S.Shelf.told c.args.shelf.now c.args.name.now)
-    (Rose (g.S.Shelf.faults c.args.shelf.now c.args.name.now) (g.S.Shelf.faults c.read_all.new.shelf c.args.name.now)) due.status due.text.items (search rules) e) c.case_fault.ensures
-
-pub returns-in-Err-Long-clause-ends : goal.returns-in-Err-Long-clause-ends
-returns-in-Err-Long-clause-ends g c =
-    IfOk-weaker c.bad_case.result _ _ (λ due e. long-case (g.S.Shelf.told c.args.shelf.now c.args.name.now)
-    (Rose (g.S.Shelf.faults c.args.shelf.now c.args.name.now) (g.S.Shelf.faults c.read_all.new.shelf c.args.name.now)) due.status due.text.items (search rules) e) c.bad_case.ensures
+pub returns-in_err-read_case-clause-ends : goal.returns-in_err-read_case-clause-ends
+returns-in_err-read_case-clause-ends g c =
+    let p = err_from_is_err_and c.from_residual-in_err-read_case.result c.from_residual-in_err-read_case.ensures.1 in
+    let fault = c.in_err-read_case.field-0.0 in
+    rw (p.1, p.2) (case-ends (g.S.Shelf.state c.args.shelf.now).told (ReadFailed (g.S.Shelf.state c.args.shelf.now) (g.S.Shelf.state c.bytes_under.new.shelf)) c.args.name.now
+    c.in_ok-bytes.bytes.items fault (case_stop fault) refl c.in_ok-bytes.ensures.bytes c.in_ok-bytes.ensures.at_most (rw c.deref.ensures.value at c.in_err-read_case.ensures.refused))

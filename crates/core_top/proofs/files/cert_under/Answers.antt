@@ -1,21 +1,20 @@
-use Rattle.std.proofs.Common.{rules}
-use Rattle.std.proofs.lemmas.Result.{IfErr-weaker, IfOk-weaker}
-use Rattle.core_io.specs.Causes.{Rose}
-use Rattle.core_top.proofs.Dues.{unread-cert, long-cert, refused-cert}
+use Rattle.std.proofs.Common.{refl}
+use Rattle.std.proofs.lemmas.Result.{err_from_is_err_and}
+use Rattle.core_io.specs.States.{ReadFailed}
+use Rattle.core_cert.specs.Stated.{cert_of_bytes}
+use Rattle.core_top.specs.declared.answers.File.TheVariants as files
+use Rattle.core_top.specs.Answers.{cert_stop}
+use Rattle.core_top.proofs.Steps.{unread-ends, cert-ends}
 use Rattle.core_top.proofs.files.cert_under.Goals as goal
 
-pub returns-in-Ok-clause-ends : goal.returns-in-Ok-clause-ends
-returns-in-Ok-clause-ends g c =
-    IfErr-weaker c.stated_cert.result _ _
-    (λ answer h. IfOk-weaker answer _ _ (λ due e. refused-cert c.args.case.now _ _ c.in-Ok.bytes.items due.status due.text.items c.in-Ok.ensures.bytes c.in-Ok.ensures.at_most e) h)
-    (rw c.deref.ensures.value at c.stated_cert.ensures.refused)
+pub returns-in_err-bytes-clause-ends : goal.returns-in_err-bytes-clause-ends
+returns-in_err-bytes-clause-ends g c =
+    let p = err_from_is_err_and c.from_residual.result c.from_residual.ensures.1 in
+    rw (p.1, p.2) (unread-ends files.Cert (cert_of_bytes c.args.case.now) _ _ c.in_err-bytes.field-0.0 c.in_err-bytes.ensures.ends)
 
-pub returns-in-Err-Fault-clause-ends : goal.returns-in-Err-Fault-clause-ends
-returns-in-Err-Fault-clause-ends g c =
-    IfOk-weaker c.cert_fault.result _ _ (λ due e. unread-cert c.args.case.now (g.S.Shelf.told c.args.shelf.now c.args.name.now)
-    (Rose (g.S.Shelf.faults c.args.shelf.now c.args.name.now) (g.S.Shelf.faults c.read_all.new.shelf c.args.name.now)) due.status due.text.items (search rules) e) c.cert_fault.ensures
-
-pub returns-in-Err-Long-clause-ends : goal.returns-in-Err-Long-clause-ends
-returns-in-Err-Long-clause-ends g c =
-    IfOk-weaker c.bad_cert.result _ _ (λ due e. long-cert c.args.case.now (g.S.Shelf.told c.args.shelf.now c.args.name.now)
-    (Rose (g.S.Shelf.faults c.args.shelf.now c.args.name.now) (g.S.Shelf.faults c.read_all.new.shelf c.args.name.now)) due.status due.text.items (search rules) e) c.bad_cert.ensures
+pub returns-in_err-read_cert-clause-ends : goal.returns-in_err-read_cert-clause-ends
+returns-in_err-read_cert-clause-ends g c =
+    let p = err_from_is_err_and c.from_residual-in_err-read_cert.result c.from_residual-in_err-read_cert.ensures.1 in
+    let fault = c.in_err-read_cert.field-0.0 in
+    rw (p.1, p.2) (cert-ends (g.S.Shelf.state c.args.shelf.now).told (ReadFailed (g.S.Shelf.state c.args.shelf.now) (g.S.Shelf.state c.bytes_under.new.shelf)) c.args.name.now
+    c.args.case.now c.in_ok-bytes.bytes.items fault (cert_stop fault) refl c.in_ok-bytes.ensures.bytes c.in_ok-bytes.ensures.at_most (rw c.deref.ensures.value at c.in_err-read_cert.ensures.refused))

@@ -1,0 +1,32 @@
+-- The fields of every line are plain, so its text is one record.
+use Rattle.std.proofs.Common.{◌≡◌, refl, [], ◌∷◌, ℕ, List, codes, decimal, pos, length, nat_le, true, ◌&&◌}
+use Rattle.std.specs.List.{list_all}
+use Rattle.core_rows.specs.Fields.{number_text}
+use Rattle.core_rows.specs.Written.{is_plain_byte, IsPlainField, IsPlainRow}
+use Rattle.core_rows.proofs.Plain.{number_text-plain, row-plain-one, row-plain-more, word-plain}
+use Rattle.core_top.specs.declared.answers.File.{File}
+use Rattle.core_top.specs.declared.answers.File.TheVariants as files
+use Rattle.core_top.specs.declared.answers.Line.{Line}
+use Rattle.core_top.specs.declared.answers.Line.TheVariants.{Usage, Unread, Bad, AcceptedCloses, AcceptedCannot, Refused, Wide}
+use Rattle.core_top.specs.Answers.{word_of, fields_of}
+
+-- the word of a file
+file-plain : (file : File) → IsPlainField (word_of file)
+file-plain files.Case = word-plain (codes "case") refl
+file-plain files.Cert = word-plain (codes "cert") refl
+
+-- a field and then two numbers
+with-numbers : (first : List ℕ) (m n : ℕ) → IsPlainField first → IsPlainRow (first ∷ number_text (pos m) ∷ number_text (pos n) ∷ [])
+with-numbers first m n plain =
+    row-plain-more first _ plain (row-plain-more (number_text (pos m)) _ (number_text-plain (pos m)) (row-plain-one (number_text (pos n)) (number_text-plain (pos n))))
+
+pub line-plain : (line : Line) → IsPlainRow (fields_of line)
+line-plain Usage = row-plain-one (codes "usage") (word-plain (codes "usage") refl)
+line-plain (Unread file) =
+    row-plain-more (codes "fault") _ (word-plain (codes "fault") refl)
+    (row-plain-more (codes "read") _ (word-plain (codes "read") refl) (row-plain-one (word_of file) (file-plain file)))
+line-plain (Bad file row code) = row-plain-more (codes "bad") _ (word-plain (codes "bad") refl) (with-numbers (word_of file) row code (file-plain file))
+line-plain AcceptedCloses = row-plain-more (codes "accepted") _ (word-plain (codes "accepted") refl) (row-plain-one (codes "closes") (word-plain (codes "closes") refl))
+line-plain AcceptedCannot = row-plain-more (codes "accepted") _ (word-plain (codes "accepted") refl) (row-plain-one (codes "cannot") (word-plain (codes "cannot") refl))
+line-plain (Refused condition place) = with-numbers (codes "refused") condition place (word-plain (codes "refused") refl)
+line-plain (Wide condition place) = row-plain-more (codes "wide") _ (word-plain (codes "wide") refl) (with-numbers (codes "check") condition place (word-plain (codes "check") refl))

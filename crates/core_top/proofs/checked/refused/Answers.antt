@@ -1,9 +1,0 @@
-use Rattle.std.proofs.Common.{◌≡◌, rules, refl, ◌∷◌, [], codes, pos}
-use Rattle.core_rows.specs.Fields.{number_text}
-use Rattle.core_top.proofs.Said.{one-word}
-use Rattle.core_top.proofs.checked.refused.Goals as goal
-
-pub said-requires : goal.said-requires
-said-requires c =
-    let fields : c.push_number-2.new.self ≡ codes "refused" ∷ number_text (pos c.args.condition) ∷ number_text (pos c.args.place) ∷ [] = search rules in
-    rw fields (one-word (codes "refused") c.args.condition c.args.place refl)
