@@ -1,5 +1,6 @@
 -- When the loss of a calendar leaves 128 bits.
-use Rattle.std.proofs.Common.{◌≡◌, sym, ◌∙◌, ap₂, ◌<◌, ℤ, ◌-ℤ◌, ◌*ℤ◌, true, false, subst, unsigned_abs, arith}
+use Rattle.std.proofs.Common.{◌≡◌, sym, ◌∙◌, ap₂, ◌<◌, ℤ, ◌-ℤ◌, ◌*ℤ◌, true, false, subst}
+use Rattle.std.proofs.Common.{unsigned_abs, arith}
 use Rattle.std.proofs.lemmas.Int.{ints}
 use Rattle.std.proofs.lemmas.Bool.Decides.{nat_tests}
 use Rattle.core_sums.specs.Sums.{sum_below}
@@ -10,7 +11,8 @@ use Rattle.core_book.specs.View.{CaseView, cash}
 use Rattle.core_model.specs.Closing.{fixed}
 use Rattle.core_lp.specs.declared.names.Col.TheVariants as col
 use Rattle.core_lp.specs.ByName.{of_column}
-use Rattle.core_lp.specs.Placing.{Numerators, LossLeaves, Product, Difference, fixed_placed, loss_placed}
+use Rattle.core_lp.specs.Placing.{Numerators, LossLeaves, Product, Difference, fixed_placed}
+use Rattle.core_lp.specs.Placing.{loss_placed}
 
 -- a number that leaves is above the greatest
 above : (z : ℤ) → leaves most z ≡ true → most < unsigned_abs z
@@ -33,7 +35,8 @@ module _ (c : CaseView) (x : Numerators) (p d : ℤ) (first : p ≡ cash c 0) (d
     pub difference-leaves : leaves most (n -ℤ q) ≡ true → LossLeaves most c x
     difference-leaves e = Difference (subst (λ z. most < unsigned_abs z) loss-is (above (n -ℤ q) e))
 
-    pub none-leaves : leaves most (p *ℤ d) ≡ false → leaves most (n -ℤ q) ≡ false → LossLeaves most c x → ⊥
+    pub none-leaves : leaves most (p *ℤ d) ≡ false → leaves most (n -ℤ q) ≡ false
+        → LossLeaves most c x → ⊥
     none-leaves stays rest (Product h) =
         let kept = stays-kept (p *ℤ d) stays in
         let over = subst (λ z. most < unsigned_abs z) (sym product-is) h in

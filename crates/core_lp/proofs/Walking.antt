@@ -1,12 +1,16 @@
--- The numbers of columns and of rows by place, as their names are walked from the last to the first.
-use Rattle.std.proofs.Common.{◌≡◌, refl, sym, ◌∙◌, ap, ap₂, ℕ, suc, ◌-◌, ◌<◌, ◌≤◌, ℤ, pos, Bool, true, false, eqb, ◌&&◌, List, [], ◌∷◌}
-use Rattle.std.proofs.Common.{length, get_or, drop, drop-cons, replicate, if◌then◌else◌, subst, arith}
+-- The numbers of columns and of rows by place, as their names are walked from the last to the
+-- first.
+use Rattle.std.proofs.Common.{◌≡◌, refl, sym, ◌∙◌, ap, ap₂, ℕ, suc, ◌-◌, ◌<◌, ◌≤◌, ℤ, pos, Bool}
+use Rattle.std.proofs.Common.{true, false, eqb, ◌&&◌, List, [], ◌∷◌}
+use Rattle.std.proofs.Common.{length, get_or, drop, drop-cons, replicate, if◌then◌else◌, subst}
+use Rattle.std.proofs.Common.{arith}
 use Rattle.std.proofs.lemmas.List.{drop_all}
 use Rattle.core_sums.specs.Places.{below, at, each}
 use Rattle.core_book.specs.View.{CaseView, is_allowed}
 use Rattle.core_book.specs.Kept.{IsCase}
 use Rattle.core_model.specs.Closing.{line_count}
-use Rattle.core_model.specs.Layout.{amount_count, scenario_count, limit_count, pool_count, row_at_place}
+use Rattle.core_model.specs.Layout.{amount_count, scenario_count, limit_count, pool_count}
+use Rattle.core_model.specs.Layout.{row_at_place}
 use Rattle.core_model.specs.Layout.{day_at_place, tier_at_place, pool_at_place, pool_day_at_place}
 use Rattle.core_model.specs.Layout.{scenario_at_place, house_day_at_place}
 use Rattle.core_model.specs.Layout.{closing_place, pool_place, scenario_place}
@@ -51,7 +55,8 @@ zeros-at n m e = ap (λ (k : ℕ). replicate k (pos 0)) e ∙ by_place-zero m (�
 
 -- ---- one name more
 -- what is left of a list, with the one before
-dropped : {A : Type 0} (xs : List A) (i : ℕ) (x d : A) → x ≡ get_or xs (i - 1) d → 1 ≤ i → i ≤ length xs
+dropped : {A : Type 0} (xs : List A) (i : ℕ) (x d : A) → x ≡ get_or xs (i - 1) d → 1 ≤ i
+    → i ≤ length xs
     → x ∷ drop i xs ≡ drop (i - 1) xs
 dropped xs i x d here from to =
     let next : suc (i - 1) ≡ i = omega (arith, from) in
@@ -107,16 +112,20 @@ module _ (c : CaseView) where
 
   -- ---- where the last names are walked
   -- none of them
-  pub columns-none : (names : List Col) (zs : List ℤ) (n i k : ℕ) → n ≡ amount_count c → length names ≤ i
+  pub columns-none : (names : List Col) (zs : List ℤ) (n i k : ℕ) → n ≡ amount_count c
+      → length names ≤ i
       → length zs ≤ k
-      → record { amounts = replicate n (pos 0); loss = pos 0 } ≡ by_column c (drop i names) (at (drop k zs))
+      → record { amounts = replicate n (pos 0); loss = pos 0 }
+      ≡ by_column c (drop i names) (at (drop k zs))
   unfolding beside
   columns-none names zs n i k size past over =
       ap (λ (xs : List ℤ). record { amounts = xs; loss = pos 0 })
       (zeros-at n (amount_count c) size)
-      ∙ ap₂ (λ xs ys. by_column c xs (at ys)) (sym (drop_all i names past)) (sym (drop_all k zs over))
+      ∙ ap₂ (λ xs ys. by_column c xs (at ys)) (sym (drop_all i names past))
+      (sym (drop_all k zs over))
 
-  pub zeros-are : (f : ℕ → ℤ) (full back limit pool loss : ℕ) → full ≡ line_count c → back ≡ line_count c
+  pub zeros-are : (f : ℕ → ℤ) (full back limit pool loss : ℕ) → full ≡ line_count c → back
+      ≡ line_count c
       → limit ≡ limit_count c → pool ≡ pool_count c → loss ≡ scenario_count c
       → record {
         full = replicate full (pos 0);
@@ -135,14 +144,16 @@ module _ (c : CaseView) where
         zeros-at loss (scenario_count c) t,
       ) refl
 
-  pub rows-none : (names : List RowName) (zs : List ℤ) (f : ℕ → ℤ) (i k : ℕ) → length names ≤ i → length zs ≤ k
+  pub rows-none : (names : List RowName) (zs : List ℤ) (f : ℕ → ℤ) (i k : ℕ) → length names ≤ i
+      → length zs ≤ k
       → by_row c [] f ≡ by_row c (drop i names) (at (drop k zs))
   unfolding beside
   rows-none names zs f i k past over =
       ap₂ (λ xs ys. by_row c xs (at ys)) (sym (drop_all i names past)) (sym (drop_all k zs over))
 
   -- and the one before
-  pub columns-one : (names : List Col) (zs : List ℤ) (i : ℕ) (y : Col) (z : ℤ) → 1 ≤ i → i ≤ length names
+  pub columns-one : (names : List Col) (zs : List ℤ) (i : ℕ) (y : Col) (z : ℤ) → 1 ≤ i
+      → i ≤ length names
       → i ≤ length zs → y ≡ get_or names (i - 1) col.Loss → z ≡ at zs (i - 1) → IsInCase c y
       → with_column c (by_column c (drop i names) (at (drop i zs))) y z
       ≡ by_column c (drop (i - 1) names) (at (drop (i - 1) zs))
@@ -151,7 +162,8 @@ module _ (c : CaseView) where
       ∙ ap₂ (λ xs ys. by_column c xs (at ys)) (dropped names i y col.Loss name from to)
       (dropped zs i z (pos 0) is from within)
 
-  pub rows-one : (names : List RowName) (zs : List ℤ) (i : ℕ) (y : RowName) (z : ℤ) → 1 ≤ i → i ≤ length names
+  pub rows-one : (names : List RowName) (zs : List ℤ) (i : ℕ) (y : RowName) (z : ℤ) → 1 ≤ i
+      → i ≤ length names
       → i ≤ length zs → y ≡ get_or names (i - 1) (row.Full 0) → z ≡ at zs (i - 1) → IsRow c y
       → with_number c (by_row c (drop i names) (at (drop i zs))) y z
       ≡ by_row c (drop (i - 1) names) (at (drop (i - 1) zs))
@@ -163,9 +175,11 @@ module _ (c : CaseView) where
   -- their lists have the case's lengths
   pub columns-sized : (names : List Col) (f : ℕ → ℤ) (x : ColumnNumbers) → x ≡ by_column c names f
       → length x.amounts ≡ amount_count c
-  columns-sized names f x e = ap (λ (v : ColumnNumbers). length v.amounts) e ∙ by_place-length (amount_count c) _
+  columns-sized names f x e = ap (λ (v : ColumnNumbers). length v.amounts) e
+      ∙ by_place-length (amount_count c) _
 
-  pub rows-sized : (names : List RowName) (f : ℕ → ℤ) (x : RowNumbers) → x ≡ by_row c names f → AreSized c x
+  pub rows-sized : (names : List RowName) (f : ℕ → ℤ) (x : RowNumbers) → x ≡ by_row c names f
+      → AreSized c x
   rows-sized names f x e = record {
     full = ap (λ (v : RowNumbers). length v.full) e ∙ by_place-length (line_count c) _;
     back = ap (λ (v : RowNumbers). length v.back) e ∙ by_place-length (line_count c) _;

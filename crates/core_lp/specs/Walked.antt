@@ -1,4 +1,5 @@
--- Lists of numbers by place, as the names of the columns or of the rows are walked from the last to the first.
+-- Lists of numbers by place, as the names of the columns or of the rows are walked from the last to
+-- the first.
 use Rattle.std.specs.Prelude.{◌≡◌, ℕ, ℤ, pos, ◌-ℤ◌, neg_ℤ, ◌≤ℤ◌, List, length, set}
 use Rattle.core_sums.specs.Places.{at}
 use Rattle.core_sums.specs.Widths.{IsKept}
@@ -6,7 +7,8 @@ use Rattle.core_book.specs.View.{CaseView, line}
 use Rattle.core_book.specs.declared.parts.Side.{Side}
 use Rattle.core_book.specs.declared.parts.Side.TheVariants.{Position, Collateral}
 use Rattle.core_model.specs.Closing.{line_count, IsClosing}
-use Rattle.core_model.specs.Layout.{amount_count, scenario_count, limit_count, pool_count, row_at_place}
+use Rattle.core_model.specs.Layout.{amount_count, scenario_count, limit_count, pool_count}
+use Rattle.core_model.specs.Layout.{row_at_place}
 use Rattle.core_model.specs.Layout.{day_at_place, tier_at_place, pool_at_place, pool_day_at_place}
 use Rattle.core_model.specs.Layout.{scenario_at_place, house_day_at_place}
 use Rattle.core_model.specs.Layout.{closing_place, pool_place, scenario_place}
@@ -29,7 +31,8 @@ IsInCase c col.Loss = Unit {0}
 abbrev pub by_column : CaseView → List Col → (ℕ → ℤ) → ColumnNumbers
 by_column c names f = record {
   amounts = by_place (amount_count c) (λ n.
-      beside same_col (col.Close (row_at_place c n) (day_at_place c n) (tier_at_place c n)) names f);
+      beside same_col
+      (col.Close (row_at_place c n) (day_at_place c n) (tier_at_place c n)) names f);
   loss = beside same_col col.Loss names f;
 }
 
@@ -45,7 +48,8 @@ by_row c names f = record {
   full = by_place (line_count c) (λ l. beside same_row (row.Full l) names f);
   back = by_place (line_count c) (λ l. beside same_row (row.Back l) names f);
   limit = by_place (limit_count c) (λ n.
-      beside same_row (row.Limit (row_at_place c n) (day_at_place c n) (tier_at_place c n)) names f);
+      beside same_row
+      (row.Limit (row_at_place c n) (day_at_place c n) (tier_at_place c n)) names f);
   pool = by_place (pool_count c) (λ n.
       beside same_row (row.Pool (pool_at_place c n) (pool_day_at_place c n)) names f);
   loss = by_place (scenario_count c) (λ n.
@@ -76,7 +80,8 @@ line_weight Collateral back full = neg_ℤ full
 
 -- of all lines
 abbrev pub line_weights : CaseView → RowNumbers → List ℤ
-line_weights c x = by_place (line_count c) (λ l. line_weight (line c l).side (at x.back l) (at x.full l))
+line_weights c x = by_place (line_count c)
+    (λ l. line_weight (line c l).side (at x.back l) (at x.full l))
 
 -- a number that 128 bits keep and that is not negative
 abbrev pub IsWeight : ℤ → Type 0

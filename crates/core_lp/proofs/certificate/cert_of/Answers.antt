@@ -34,7 +34,8 @@ returns-in_ok-dual_weights-in-Optimal-clause-fits c =
 pub returns-in_ok-farkas_weights-in-Cannot-clause-fits : goal.returns-in_ok-farkas_weights-in-Cannot-clause-fits
 returns-in_ok-farkas_weights-in-Cannot-clause-fits c =
     let case = c.args.case.now in
-    let is = ap Cannot c.in_ok-farkas_weights-in-Cannot.ensures ∙ sym (ap (placed case) c.in-Cannot.is) in
+    let is = ap Cannot c.in_ok-farkas_weights-in-Cannot.ensures
+    ∙ sym (ap (placed case) c.in-Cannot.is) in
     subst (Fits case) (sym is)
     (placed-fits case c.args.parts.now c.requires.parts
     (subst (λ v. PlacedLeaves (2 ^ 127 - 1) case v → ⊥) (sym c.in-Cannot.is) (λ e. e)))
@@ -42,5 +43,6 @@ returns-in_ok-farkas_weights-in-Cannot-clause-fits c =
 pub returns-in_ok-farkas_weights-in-Cannot-clause-refusing : goal.returns-in_ok-farkas_weights-in-Cannot-clause-refusing
 returns-in_ok-farkas_weights-in-Cannot-clause-refusing c =
     let case = c.args.case.now in
-    let is = ap Cannot c.in_ok-farkas_weights-in-Cannot.ensures ∙ sym (ap (placed case) c.in-Cannot.is) in
+    let is = ap Cannot c.in_ok-farkas_weights-in-Cannot.ensures
+    ∙ sym (ap (placed case) c.in-Cannot.is) in
     subst HasNoScenario (sym is) (placed-refuses case c.args.parts.now)

@@ -11,7 +11,8 @@ pub returns-in-None-clause-too_wide : goal.returns-in-None-clause-too_wide
 returns-in-None-clause-too_wide c =
     let case = c.args.case.now in
     let first : to_z w128 (of_z w128 c.from.result) ≡ cash case 0 =
-    to_z-of_z w128 c.from.result (search rules) ∙ c.from.ensures ∙ to_z-of_z w64 c.cash.result (search rules)
+    to_z-of_z w128 c.from.result (search rules) ∙ c.from.ensures
+    ∙ to_z-of_z w64 c.cash.result (search rules)
     ∙ c.cash.ensures in
     let den = to_z-of_z w128 c.args.primal.now.den (search rules) in
     λ _. product-leaves case (numerators_of c.args.primal.now) _ _ first den c.in-None.ensures
@@ -20,7 +21,8 @@ pub returns-in-Some-minus-clause-value : goal.returns-in-Some-minus-clause-value
 returns-in-Some-minus-clause-value c =
     let case = c.args.case.now in
     let first : to_z w128 (of_z w128 c.from.result) ≡ cash case 0 =
-    to_z-of_z w128 c.from.result (search rules) ∙ c.from.ensures ∙ to_z-of_z w64 c.cash.result (search rules)
+    to_z-of_z w128 c.from.result (search rules) ∙ c.from.ensures
+    ∙ to_z-of_z w64 c.cash.result (search rules)
     ∙ c.cash.ensures in
     let den = to_z-of_z w128 c.args.primal.now.den (search rules) in
     let number = to_z-of_z w128 c.args.number (search rules) ∙ c.requires in
@@ -32,19 +34,22 @@ pub returns-in-Some-minus-clause-stays : goal.returns-in-Some-minus-clause-stays
 returns-in-Some-minus-clause-stays c =
     let case = c.args.case.now in
     let first : to_z w128 (of_z w128 c.from.result) ≡ cash case 0 =
-    to_z-of_z w128 c.from.result (search rules) ∙ c.from.ensures ∙ to_z-of_z w64 c.cash.result (search rules)
+    to_z-of_z w128 c.from.result (search rules) ∙ c.from.ensures
+    ∙ to_z-of_z w64 c.cash.result (search rules)
     ∙ c.cash.ensures in
     let den = to_z-of_z w128 c.args.primal.now.den (search rules) in
     let number = to_z-of_z w128 c.args.number (search rules) ∙ c.requires in
     let product = to_z-of_z w128 c.in-Some.fixed (search rules) ∙ c.in-Some.ensures.0 in
-    none-leaves case (numerators_of c.args.primal.now) _ _ first den _ _ number product c.in-Some.ensures.1
+    none-leaves case
+    (numerators_of c.args.primal.now) _ _ first den _ _ number product c.in-Some.ensures.1
     c.in-Some-minus.ensures.1
 
 pub returns-in-None-minus-clause-too_wide : goal.returns-in-None-minus-clause-too_wide
 returns-in-None-minus-clause-too_wide c =
     let case = c.args.case.now in
     let first : to_z w128 (of_z w128 c.from.result) ≡ cash case 0 =
-    to_z-of_z w128 c.from.result (search rules) ∙ c.from.ensures ∙ to_z-of_z w64 c.cash.result (search rules)
+    to_z-of_z w128 c.from.result (search rules) ∙ c.from.ensures
+    ∙ to_z-of_z w64 c.cash.result (search rules)
     ∙ c.cash.ensures in
     let den = to_z-of_z w128 c.args.primal.now.den (search rules) in
     let number = to_z-of_z w128 c.args.number (search rules) ∙ c.requires in

@@ -1,4 +1,5 @@
-use Rattle.std.proofs.Common.{◌≡◌, ◌∙◌, refl, ap, ◌-◌, pos, List, ℤ, length, get_or, drop, subst, sym, arith, rules, FitsSigned}
+use Rattle.std.proofs.Common.{◌≡◌, ◌∙◌, refl, ap, ◌-◌, pos, List, ℤ, length, get_or, drop, subst}
+use Rattle.std.proofs.Common.{sym, arith, rules, FitsSigned}
 use Rattle.std.specs.Int.{w128}
 use Rattle.std.proofs.lemmas.Int.{to_z-of_z}
 use Rattle.core_sums.specs.Places.{at}
@@ -27,7 +28,8 @@ put_column-requires-clause-name c =
 pub put_column-requires-clause-size : goal.put_column-requires-clause-size
 put_column-requires-clause-size c =
     let case = c.args.case.now in
-    columns-sized case (drop c.loop-j.j (columns case)) (at (drop c.loop-j.j c.args.numbers.now)) c.loop-j.placed
+    columns-sized case (drop c.loop-j.j (columns case))
+    (at (drop c.loop-j.j c.args.numbers.now)) c.loop-j.placed
     c.loop-j.invariant
 
 pub loop-j-preserved : goal.loop-j-preserved
@@ -42,7 +44,8 @@ loop-j-preserved c =
     subst (IsInCase case) (sym name)
     (column-in-case case (j - 1) col.Loss c.closings.ensures.kept
     (omega (arith, c.requires.count, c.loop-j.auto.j, c.loop-j-test.true))) in
-    c.put_column.ensures ∙ ap (with_column case c.loop-j.placed c.col.result) (to_z-of_z w128 z fits)
+    c.put_column.ensures
+    ∙ ap (with_column case c.loop-j.placed c.col.result) (to_z-of_z w128 z fits)
     ∙ ap (λ x. with_column case x c.col.result z) c.loop-j.invariant
     ∙ columns-one case (columns case) numbers j c.col.result z (omega (arith, c.loop-j-test.true))
     (omega (arith, c.requires.count, c.loop-j.auto.j)) c.loop-j.auto.j name refl known

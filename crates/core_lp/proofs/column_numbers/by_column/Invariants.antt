@@ -6,4 +6,5 @@ use Rattle.core_lp.proofs.column_numbers.by_column.Given as goal
 
 -- the numbers of the last columns
 abbrev pub invariant-loop-j : goal.invariant-loop-j
-invariant-loop-j l = l.placed ≡ by_column l.case (drop l.j (columns l.case)) (at (drop l.j l.numbers))
+invariant-loop-j l = l.placed
+    ≡ by_column l.case (drop l.j (columns l.case)) (at (drop l.j l.numbers))

@@ -1,4 +1,5 @@
-use Rattle.std.proofs.Common.{◌≡◌, ◌∙◌, refl, ap, ◌-◌, pos, ℤ, length, get_or, drop, subst, sym, arith, rules, FitsSigned}
+use Rattle.std.proofs.Common.{◌≡◌, ◌∙◌, refl, ap, ◌-◌, pos, ℤ, length, get_or, drop, subst, sym}
+use Rattle.std.proofs.Common.{arith, rules, FitsSigned}
 use Rattle.std.specs.Int.{w128}
 use Rattle.std.proofs.lemmas.Int.{to_z-of_z}
 use Rattle.core_sums.specs.Places.{at}
@@ -21,7 +22,8 @@ loop-i-init c =
 pub put_row-requires-clause-name : goal.put_row-requires-clause-name
 put_row-requires-clause-name c =
     let case = c.args.case.now in
-    let name = c.row.ensures ∙ ap (λ p. get_or p.rows (c.loop-i.i - 1) (row.Full 0)) c.requires.built in
+    let name = c.row.ensures
+    ∙ ap (λ p. get_or p.rows (c.loop-i.i - 1) (row.Full 0)) c.requires.built in
     subst (IsRow case) (sym name)
     (row-known case (c.loop-i.i - 1) (row.Full 0)
     (omega (arith, c.requires.count, c.loop-i.auto.i, c.loop-i-test.true)))
@@ -29,7 +31,8 @@ put_row-requires-clause-name c =
 pub put_row-requires-clause-sizes : goal.put_row-requires-clause-sizes
 put_row-requires-clause-sizes c =
     let case = c.args.case.now in
-    rows-sized case (drop c.loop-i.i (row_names case)) (at (drop c.loop-i.i c.args.numbers.now)) c.loop-i.placed
+    rows-sized case (drop c.loop-i.i (row_names case))
+    (at (drop c.loop-i.i c.args.numbers.now)) c.loop-i.placed
     c.loop-i.invariant
 
 pub loop-i-preserved : goal.loop-i-preserved

@@ -6,4 +6,5 @@ use Rattle.core_lp.proofs.row_numbers.by_row.Given as goal
 
 -- the numbers of the last rows
 abbrev pub invariant-loop-i : goal.invariant-loop-i
-invariant-loop-i l = l.placed ≡ by_row l.case (drop l.i (row_names l.case)) (at (drop l.i l.numbers))
+invariant-loop-i l = l.placed
+    ≡ by_row l.case (drop l.i (row_names l.case)) (at (drop l.i l.numbers))

@@ -1,4 +1,5 @@
-use Rattle.std.proofs.Common.{◌≡◌, ◌∙◌, sym, ap, ap₂, ℕ, ◌<◌, ℤ, pos, Some, List, set, length, arith, rules, below_more, FitsSigned}
+use Rattle.std.proofs.Common.{◌≡◌, ◌∙◌, sym, ap, ap₂, ℕ, ◌<◌, ℤ, pos, Some, List, set, length}
+use Rattle.std.proofs.Common.{arith, rules, below_more, FitsSigned}
 use Rattle.std.specs.Int.{w128}
 use Rattle.std.proofs.lemmas.Int.{to_z-of_z}
 use mir.Val.{to_z, of_z}
@@ -34,8 +35,10 @@ loop-l-preserved c =
     ∙ number-at x.back l c.get.result (omega (arith, under, c.requires.sizes.back)) c.get.ensures in
     let full : to_z w128 (of_z w128 c.get-in-loop-l.result) ≡ at x.full l =
     to_z-of_z w128 c.get-in-loop-l.result fits_full
-    ∙ number-at x.full l c.get-in-loop-l.result (omega (arith, under, c.requires.sizes.full)) c.get-in-loop-l.ensures in
-    let ensures : c.set.new.self ≡ set old l z = c.set.ensures ∙ ap (set old l) (to_z-of_z w128 z fits) in
+    ∙ number-at x.full l c.get-in-loop-l.result
+    (omega (arith, under, c.requires.sizes.full)) c.get-in-loop-l.ensures in
+    let ensures : c.set.new.self ≡ set old l z = c.set.ensures
+    ∙ ap (set old l) (to_z-of_z w128 z fits) in
     let weight : z ≡ line_weight (line case l).side (at x.back l) (at x.full l) =
     c.line_weight.ensures ∙ ap₂ (line_weight c.line.result.side) back full
     ∙ ap (λ v. line_weight v.side (at x.back l) (at x.full l)) c.line.ensures in
@@ -55,5 +58,6 @@ returns c =
     let x = c.args.numbers.now in
     let last : line_count case ≡ c.loop-l.l =
     omega (arith, c.loop-l-test.false, c.loop-l.auto.l-end, c.lines-l-end.ensures) in
-    by_place-from (line_count case) (λ l. line_weight (line case l).side (at x.back l) (at x.full l)) c.loop-l.weights
+    by_place-from (line_count case)
+    (λ l. line_weight (line case l).side (at x.back l) (at x.full l)) c.loop-l.weights
     c.loop-l.invariant.size (λ i l. c.loop-l.invariant.done i (omega (arith, l, last)))

@@ -10,5 +10,6 @@ abbrev pub invariant-loop-l : goal.invariant-loop-l
 invariant-loop-l v = record {
   size : length v.weights ≡ line_count v.case;
   done : (k : ℕ) → k < v.l
-      → at v.weights k ≡ line_weight (line v.case k).side (at v.numbers.back k) (at v.numbers.full k);
+      → at v.weights k
+      ≡ line_weight (line v.case k).side (at v.numbers.back k) (at v.numbers.full k);
 }

@@ -12,5 +12,6 @@ returns c =
       c.in_ok-zeros-5.ensures,
     )
     (zeros-are c.args.case.now (λ i. pos 0) c.lines.result c.lines-2.result c.limits.result c.caps.result
-    c.house_days.result c.lines.ensures.count c.lines-2.ensures.count c.limits.ensures.count c.caps.ensures.count
+    c.house_days.result c.lines.ensures.count c.lines-2.ensures.count c.limits.ensures.count
+    c.caps.ensures.count
     c.house_days.ensures)
