@@ -1,5 +1,6 @@
 -- What is answered of a dictionary at which a case's run has ended.
-use Rattle.std.proofs.Common.{◌≡◌, ℕ, ap, ap₂, sym, ◌∙◌, subst, Result, Ok, Err, IfOk, OnOk}
+use Rattle.std.proofs.Common.{◌≡◌, ℕ, ap, ap₂, sym, ◌∙◌, subst, Result, Err, IfOk, OnOk}
+use Rattle.std.proofs.lemmas.Result.{IfOk-weaker, on_ok_weaker}
 use Rattle.core_sums.specs.Widths.{most}
 use Rattle.core_book.specs.View.{CaseView}
 use Rattle.core_model.specs.declared.cert.Cert.{Cert}
@@ -20,27 +21,19 @@ use Rattle.core_margin.proofs.Numbers.{scaled_is}
 module _ (c : CaseView) (e : Dictionary) (p d : Scaled) (p_is : IsOverCommon (primal_of e) p)
     (d_is : IsOverCommon (duals_of e) d) (r : Result Cert DualFault) where
   pub best_is : IfOk r (λ cert. cert ≡ placed c (parts.Optimal p d)) → IfOk r (IsCertOf c e Best)
-  best_is h = by r h
-    where
-      by : (x : Result Cert DualFault) → IfOk x (λ cert. cert ≡ placed c (parts.Optimal p d))
-          → IfOk x (IsCertOf c e Best)
-      by (Ok cert) is =
-          is ∙ ap₂ (closes_placed c) (scaled_is (primal_of e) p p_is) (scaled_is (duals_of e) d d_is)
-      by (Err f) is = tt
+  best_is h =
+      IfOk-weaker r (λ cert. cert ≡ placed c (parts.Optimal p d)) (IsCertOf c e Best)
+      (λ cert is. is
+      ∙ ap₂ (closes_placed c) (scaled_is (primal_of e) p p_is) (scaled_is (duals_of e) d d_is)) h
 
   pub best_kept : ¬ (CommonLeaves most (primal_of e)) → ¬ (CommonLeaves most (duals_of e))
       → OnOk r (¬ (PlacedLeaves most c (parts.Optimal p d))) → OnOk r (¬ (CertLeaves most c e Best))
-  best_kept no_primal no_duals h = by r h
+  best_kept no_primal no_duals h = on_ok_weaker r none h
     where
       none : ¬ (PlacedLeaves most c (parts.Optimal p d)) → ClosesLeaves most c e → ⊥
-      none no (Primal l) = no_primal l
-      none no (Duals l) = no_duals l
-      none no (Loss l) = no (subst (LossLeaves most c) (sym (scaled_is (primal_of e) p p_is)) l)
-
-      by : (x : Result Cert DualFault) → OnOk x (¬ (PlacedLeaves most c (parts.Optimal p d)))
-          → OnOk x (¬ (CertLeaves most c e Best))
-      by (Ok cert) no = none no
-      by (Err f) no = tt
+      none stays (Primal l) = no_primal l
+      none stays (Duals l) = no_duals l
+      none stays (Loss l) = stays (subst (LossLeaves most c) (sym (scaled_is (primal_of e) p p_is)) l)
 
   pub best_wide : (r ≡ Err dual.TooWide → PlacedLeaves most c (parts.Optimal p d)) → r ≡ Err dual.TooWide
       → CertLeaves most c e Best
@@ -50,5 +43,6 @@ module _ (c : CaseView) (e : Dictionary) (p d : Scaled) (p_is : IsOverCommon (pr
 pub none_is : (c : CaseView) (e : Dictionary) (k : ℕ) (s : Scaled) → IsOverCommon (farkas_of e k) s
     → (r : Result Cert DualFault) → IfOk r (λ cert. cert ≡ placed c (parts.Cannot s))
     → IfOk r (IsCertOf c e (NoSolution k))
-none_is c e k s is (Ok cert) h = h ∙ ap (cannot_placed c) (scaled_is (farkas_of e k) s is)
-none_is c e k s is (Err f) h = tt
+none_is c e k s is r h =
+    IfOk-weaker r (λ cert. cert ≡ placed c (parts.Cannot s)) (IsCertOf c e (NoSolution k))
+    (λ cert f. f ∙ ap (cannot_placed c) (scaled_is (farkas_of e k) s is)) h

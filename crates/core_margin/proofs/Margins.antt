@@ -1,9 +1,10 @@
 -- What the answers of a run and of its last dictionary say of a case.
-use Rattle.std.proofs.Common.{◌≡◌, refl, ℕ, sym, subst, Ok, Err, IfSome}
+use Rattle.std.proofs.Common.{◌≡◌, refl, ℕ, ap, sym, ◌∙◌, subst, Ok, Err, IfSome}
 use Rattle.core_sums.specs.Widths.{most}
 use Rattle.core_book.specs.View.{CaseView}
 use Rattle.core_model.specs.declared.cert.Cert.{Cert}
-use Rattle.core_dict.specs.Dictionary.{Dictionary}
+use Rattle.core_dict.specs.Dictionary.{Dictionary, start}
+use Rattle.core_dict.specs.Programme.{ProgrammeView}
 use Rattle.core_duals.specs.declared.scaled.DualFault.{DualFault}
 use Rattle.core_duals.specs.declared.scaled.DualFault.TheVariants as dual
 use Rattle.core_rules.specs.Candidates.{Preference}
@@ -14,6 +15,7 @@ use Rattle.core_run.specs.declared.end.RunFault.TheVariants as run
 use Rattle.core_run.specs.Widths.{ComesTo, Ended}
 use Rattle.core_run.specs.Answers.{HasCome, IsAnswer}
 use Rattle.core_run.specs.Answers as answers
+use Rattle.core_lp.specs.Named.{NamedProgramme, named_of}
 use Rattle.core_margin.specs.declared.fault.MarginFault.TheVariants as fault
 use Rattle.core_margin.specs.Last.{start_of, dictionary_after, turn_of, pivots_of, IsReached, IsCertOf}
 use Rattle.core_margin.specs.Last.{CertLeaves}
@@ -21,15 +23,22 @@ use Rattle.core_margin.specs.Outcomes.{EndsWith, EndsWide, MarginComesTo}
 use Rattle.core_margin.specs.Answers.{outcome_of, fault_of_run, fault_of_numbers}
 use Rattle.core_margin.specs.Laws.{RunReaches}
 
+-- the start of the programme that was built
+pub start_is : (c : CaseView) (p : ProgrammeView) (b : NamedProgramme) → p ≡ b.programme → b ≡ named_of c
+    → start p ≡ start_of c
+start_is c p b e f = ap start (e ∙ ap (λ (x : NamedProgramme). x.programme) f)
+
 -- ---- the run has ended
-module _ (c : CaseView) (better : Preference) (budget : ℕ) (e : Dictionary) (x : End)
-    (answer : IsAnswer most better (start_of c) budget e (answers.outcome_of (Ok x))) where
+module _ (c : CaseView) (better : Preference) (budget : ℕ) (d e : Dictionary) (x : End) (same : d ≡ start_of c)
+    (answer : IsAnswer most better d budget e (answers.outcome_of (Ok x))) where
   -- with this turn, after so many pivots
   come : HasCome most better (start_of c) budget e (Ended (pivots_of x) (turn_of x))
-  come = by x answer
+  come =
+      subst (λ (w : Dictionary). HasCome most better w budget e (Ended (pivots_of x) (turn_of x))) same
+      (by x answer)
     where
-      by : (y : End) → IsAnswer most better (start_of c) budget e (answers.outcome_of (Ok y))
-          → HasCome most better (start_of c) budget e (Ended (pivots_of y) (turn_of y))
+      by : (y : End) → IsAnswer most better d budget e (answers.outcome_of (Ok y))
+          → HasCome most better d budget e (Ended (pivots_of y) (turn_of y))
       by (end.Optimal k) h = h
       by (end.Cannot r k) h = h
 

@@ -1,14 +1,16 @@
 -- The numbers of the last dictionary of a case's run are those that a certificate is made from.
-use Rattle.std.proofs.Common.{◌≡◌, ℕ, zero, suc, ◌+◌, ◌/◌, ◌<◌, ◌≤◌, ◌⊎◌, inl, inr, ap, sym, ◌∙◌, subst, arith}
+use Rattle.std.proofs.Common.{◌≡◌, refl, ℕ, suc, ◌+◌, ◌/◌, ◌<◌, ◌≤◌, ◌⊎◌, inl, inr, ap, sym, ◌∙◌, subst, arith}
 use Rattle.std.proofs.Common.{ℤ, pos, negsuc, ◌*ℤ◌, ◌≤ℤ◌, unsigned_abs, List, ◌∷◌, length, map, get_or, All}
 use Rattle.std.proofs.Common.{Bool, true, false, cond, ◌==◌}
 use Rattle.std.proofs.lemmas.Bool.{cases_lt}
+use Rattle.std.proofs.lemmas.Int.{ints}
 use Rattle.std.proofs.lemmas.List.{length-map}
 use Rattle.std.proofs.lemmas.List.Elements.{All-map, All-cons, Contains-get_or}
 use borrow.Author.Differences.{up, down}
 use Rattle.core_sums.specs.Places.{below}
 use Rattle.core_sums.specs.Widths.{most, IsKept}
 use Rattle.core_sums.proofs.Lists.{length-below}
+use Rattle.core_sums.proofs.Order.{times-nonneg}
 use Rattle.fractions.specs.Fraction.{Fraction, zero_q, one_q, ◌≤ℚ◌}
 use Rattle.fractions.specs.Common.{common_den, numerator_over}
 use Rattle.fractions.proofs.Values.{value_zero, value_one, value_self, le_from_values, values_from_le}
@@ -51,7 +53,7 @@ module _ (law : ListsAreOverCommon) (qs : List Fraction) (fits : ¬ (CommonLeave
 
   kept : (n : ℕ) → length qs ≡ n → AreNumerators n (in_common qs)
   kept n e = record {
-    above = let h = (law qs).above in omega (arith, h);
+    above = let h = (law qs).above in omega (arith, ints, h);
     den = den_kept;
     count = length-map qs (numerator_over (common_den qs)) ∙ e;
     kept = list_kept;
@@ -60,10 +62,10 @@ module _ (law : ListsAreOverCommon) (qs : List Fraction) (fits : ¬ (CommonLeave
 -- ---- signs
 -- the numerator of what is not negative is not negative
 numerator_not_negative : (m : ℕ) (q : Fraction) → zero_q ≤ℚ q → pos 0 ≤ℤ numerator_over m q
-numerator_not_negative m q h = by q.num refl
+numerator_not_negative m q h = times-nonneg q.num (pos (m / q.den)) (by q.num refl) (omega (arith, ints))
   where
-    by : (z : ℤ) → q.num ≡ z → pos 0 ≤ℤ (z *ℤ pos (m / q.den))
-    by (pos n) e = omega arith
+    by : (z : ℤ) → q.num ≡ z → pos 0 ≤ℤ z
+    by (pos n) e = omega (arith, ints)
     by (negsuc n) e = absurd (omega (arith, values_from_le value_zero (value_self q) h, ap up e, ap down e))
 
 positive : (law : ListsAreOverCommon) (qs : List Fraction) → ¬ (CommonLeaves most qs) → (n : ℕ) → length qs ≡ n

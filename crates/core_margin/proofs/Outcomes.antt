@@ -57,6 +57,7 @@ module _ (c : CaseView) (better : Preference) (budget : ℕ) where
 
   run_comes : (o : MarginOutcome) (h : MarginComesTo c better budget o)
       → ComesTo most better (start_of c) budget (run_outcome o h)
+  unfolding run_outcome
   run_comes (Certificate cert) h = h.ended
   run_comes Common h = h.ended
   run_comes (Pivot k) h = h
@@ -75,6 +76,7 @@ module _ (c : CaseView) (better : Preference) (budget : ℕ) where
 
   same : (o q : MarginOutcome) (h : MarginComesTo c better budget o) (f : MarginComesTo c better budget q)
       → run_outcome o h ≡ run_outcome q f → o ≡ q
+  unfolding run_outcome
   same (Certificate x) (Certificate y) h f e =
       ap Certificate
       (one_cert c (dictionary_after c better f.pivots) f.turn x y
