@@ -1,0 +1,8 @@
+mod Programmes
+mod Reached
+mod Deciding
+mod Outcomes
+mod Same
+mod Numbers
+mod Certificates
+mod Margins

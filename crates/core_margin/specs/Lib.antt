@@ -1,0 +1,4 @@
+pub mod Last
+pub mod Outcomes
+pub mod Answers
+pub mod Laws
