@@ -36,9 +36,9 @@ fn the_items_of_the_start(rt: HostRuntime) -> Result<(), Fail> {
     let programme = programme(&rt, alloc, &TWO_SCENARIOS)?;
     let dict: Sparse<Frac64> = started(alloc, &programme)?;
     let first = items_of(&rt, alloc, &dict, 0)?;
-    assert_eq!(rt; first.as_slice(), &[(0, (1, 1)), (1, (1, 1))]);
+    assert_eq!(rt; first.as_slice(), [(0, (1, 1)), (1, (1, 1))].as_slice());
     let third = items_of(&rt, alloc, &dict, 2)?;
-    assert_eq!(rt; third.as_slice(), &[(0, (1, 1))]);
+    assert_eq!(rt; third.as_slice(), [(0, (1, 1))].as_slice());
     Ok(())
 }
 
