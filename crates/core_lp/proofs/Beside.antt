@@ -11,27 +11,27 @@ use Rattle.core_model.specs.Closing.{line_count, ClosesAsAllowed}
 use Rattle.core_lp.specs.declared.names.Col.{Col}
 use Rattle.core_lp.specs.declared.names.Col.TheVariants as col
 use Rattle.core_lp.specs.CaseProgramme.{columns, line_columns, day_columns, number_at}
-use Rattle.core_lp.specs.ByName.{same_col, beside, plan_by}
+use Rattle.core_lp.specs.ByName.{same_col, beside, of_column, plan_by}
 use Rattle.core_lp.specs.Laws.{IsByPlan}
 use Rattle.core_lp.proofs.Alls.{AllOf, AllOf-append, AllOf-map, AllOf-each, AllOf-filter, AllOf-below}
 use Rattle.core_lp.proofs.Alls.{AllOf-days, AllOf-imply}
 
 -- ---- lists in which R holds of each two in their order
-abbrev Pairs : {A : Type 0} → (A → A → Type 0) → List A → Type 0
+abbrev pub Pairs : {A : Type 0} → (A → A → Type 0) → List A → Type 0
 Pairs R [] = Unit {0}
 Pairs R (x ∷ xs) = AllOf (R x) xs × Pairs R xs
 
-Pairs-append : {A : Type 0} (R : A → A → Type 0) (xs ys : List A) → Pairs R xs → Pairs R ys
+pub Pairs-append : {A : Type 0} (R : A → A → Type 0) (xs ys : List A) → Pairs R xs → Pairs R ys
     → AllOf (λ x. AllOf (R x) ys) xs → Pairs R (xs ++ ys)
 Pairs-append R [] ys h k m = k
 Pairs-append R (x ∷ xs) ys h k m = ((AllOf-append (R x) xs ys).1 (h.0, m.0), Pairs-append R xs ys h.1 k m.1)
 
-Pairs-map : {A B : Type 0} (R : B → B → Type 0) (f : A → B) (xs : List A) → Pairs (λ x y. R (f x) (f y)) xs
+pub Pairs-map : {A B : Type 0} (R : B → B → Type 0) (f : A → B) (xs : List A) → Pairs (λ x y. R (f x) (f y)) xs
     → Pairs R (map f xs)
 Pairs-map R f [] h = h
 Pairs-map R f (x ∷ xs) h = ((AllOf-map (R (f x)) f xs).1 h.0, Pairs-map R f xs h.1)
 
-Pairs-filter : {A : Type 0} (R : A → A → Type 0) (p : A → Bool) (xs : List A) → Pairs R xs
+pub Pairs-filter : {A : Type 0} (R : A → A → Type 0) (p : A → Bool) (xs : List A) → Pairs R xs
     → Pairs R (filter p xs)
 Pairs-filter R p [] h = h
 Pairs-filter R p (x ∷ xs) h = by (p x) (Pairs-filter R p xs h.1)
@@ -53,7 +53,7 @@ joined R f (z ∷ zs) xs h = (
       (λ y k. k.1) h),
 )
 
-Pairs-each : {A B : Type 0} (R : B → B → Type 0) (xs : List A) (f : A → List B)
+pub Pairs-each : {A B : Type 0} (R : B → B → Type 0) (xs : List A) (f : A → List B)
     → Pairs (λ x y. AllOf (λ z. AllOf (R z) (f y)) (f x)) xs → AllOf (λ x. Pairs R (f x)) xs
     → Pairs R (each xs f)
 unfolding each
@@ -61,14 +61,14 @@ Pairs-each R [] f h k = h
 Pairs-each R (x ∷ xs) f h k =
     Pairs-append R (f x) (each xs f) k.0 (Pairs-each R xs f h.1 k.1) (joined R f (f x) xs h.0)
 
-Pairs-below : (R : ℕ → ℕ → Type 0) (n : ℕ) → ((i j : ℕ) → i < j → R i j) → Pairs R (below n)
+pub Pairs-below : (R : ℕ → ℕ → Type 0) (n : ℕ) → ((i j : ℕ) → i < j → R i j) → Pairs R (below n)
 unfolding below
 Pairs-below R zero h = tt
 Pairs-below R (suc n) h =
     Pairs-append R (below n) (n ∷ []) (Pairs-below R n h) (tt, tt)
     ((AllOf-below (λ i. AllOf (R i) (n ∷ [])) n).1 (λ i l. (h i n l, tt)))
 
-Pairs-days : (R : ℕ → ℕ → Type 0) (n : ℕ) → ((u w : ℕ) → u < w → R u w) → Pairs R (days_to n)
+pub Pairs-days : (R : ℕ → ℕ → Type 0) (n : ℕ) → ((u w : ℕ) → u < w → R u w) → Pairs R (days_to n)
 unfolding days_to
 Pairs-days R zero h = tt
 Pairs-days R (suc n) h =
@@ -77,7 +77,7 @@ Pairs-days R (suc n) h =
 
 -- ---- look-ups
 -- a name that is not there
-beside-none : {A : Type 0} (same : A → A → Bool) (x : A) (ys : List A) (f : ℕ → ℤ)
+pub beside-none : {A : Type 0} (same : A → A → Bool) (x : A) (ys : List A) (f : ℕ → ℤ)
     → AllOf (λ y. same x y ≡ false) ys → beside same x ys f ≡ pos 0
 unfolding beside
 beside-none same x [] f h = refl
@@ -85,7 +85,7 @@ beside-none same x (y ∷ ys) f h = ap (λ b. if b then f 0 else beside same x y
     ∙ beside-none same x ys (λ j. f (suc j)) h.1
 
 -- a name at its place, where no two are the same
-beside-at : {A : Type 0} (same : A → A → Bool) (ys : List A) (i : ℕ) (d : A) (f : ℕ → ℤ)
+pub beside-at : {A : Type 0} (same : A → A → Bool) (ys : List A) (i : ℕ) (d : A) (f : ℕ → ℤ)
     → ((x : A) → same x x ≡ true) → Pairs (λ x y. same y x ≡ false) ys → i < length ys
     → beside same (get_or ys i d) ys f ≡ f i
 unfolding beside
@@ -206,6 +206,14 @@ module _ (c : CaseView) where
 
       first : length (columns c) - 1 - length (each (below (line_count c)) (line_columns c)) ≡ 0
       first = let e = size in omega (arith, e)
+
+  -- and its number that of the last place
+  pub loss-number : (x : ℕ → ℤ) → of_column c x col.Loss ≡ x (length (columns c) - 1)
+  loss-number x =
+      let size = length-append (each (below (line_count c)) (line_columns c)) (col.Loss ∷ []) in
+      ap (λ y. beside same_col y (columns c) x) (sym last_column)
+      ∙ beside-at same_col (columns c) (length (columns c) - 1) col.Loss x same_col-self column_pairs
+      (omega (arith, size))
 
   -- what the calendar of numerators and the last of them give a column
   pub by_plan : (d : ℤ) (x : ℕ → ℤ) → IsByPlan c d x

@@ -15,7 +15,7 @@ use Rattle.core_lp.specs.declared.names.Col.TheVariants as col
 use Rattle.core_lp.specs.CaseProgramme.{columns, line_columns, day_columns}
 
 -- ---- lists
-map-map : {A B C : Type 0} (f : B → C) (g : A → B) (xs : List A) → map f (map g xs) ≡ map (λ x. f (g x)) xs
+pub map-map : {A B C : Type 0} (f : B → C) (g : A → B) (xs : List A) → map f (map g xs) ≡ map (λ x. f (g x)) xs
 map-map f g [] = refl
 map-map f g (x ∷ xs) = ap (λ ys. f (g x) ∷ ys) (map-map f g xs)
 
@@ -26,7 +26,7 @@ map-each f [] g = refl
 map-each f (x ∷ xs) g = map-append f (g x) (each xs g) ∙ ap (λ ys. map f (g x) ++ ys) (map-each f xs g)
 
 -- the total over the days
-total-days : (n : ℕ) (f : ℕ → ℤ) → total (map f (days_to n)) ≡ sum_days n f
+pub total-days : (n : ℕ) (f : ℕ → ℤ) → total (map f (days_to n)) ≡ sum_days n f
 total-days n f = ap (λ xs. total (map f xs)) (days_to-below n) ∙ ap total (map-map f suc (below n))
     ∙ total-below n (λ i. f (suc i))
 
@@ -36,12 +36,12 @@ unfolding total
 total-single z = omega (arith, ints)
 
 -- the total of lists joined, by place and by day
-total-each_below : {A : Type 0} (n : ℕ) (h : A → ℤ) (g : ℕ → List A)
+pub total-each_below : {A : Type 0} (n : ℕ) (h : A → ℤ) (g : ℕ → List A)
     → total (map h (each (below n) g)) ≡ sum_below n (λ i. total (map h (g i)))
 total-each_below n h g = ap total (map-each h (below n) g) ∙ total-each (below n) (λ i. map h (g i))
     ∙ total-below n (λ i. total (map h (g i)))
 
-total-each_days : {A : Type 0} (n : ℕ) (h : A → ℤ) (g : ℕ → List A)
+pub total-each_days : {A : Type 0} (n : ℕ) (h : A → ℤ) (g : ℕ → List A)
     → total (map h (each (days_to n) g)) ≡ sum_days n (λ u. total (map h (g u)))
 total-each_days n h g = ap total (map-each h (days_to n) g) ∙ total-each (days_to n) (λ u. map h (g u))
     ∙ total-days n (λ u. total (map h (g u)))

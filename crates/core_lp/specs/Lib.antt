@@ -3,5 +3,6 @@ pub mod Named
 pub mod Known
 pub mod ByName
 pub mod Placing
+pub mod Walked
 pub mod Ranks
 pub mod Laws

@@ -1,5 +1,6 @@
 // The columns of a case's programme, in their order.
 ghost use Rattle.std.specs.Prelude.{◌≡◌, ◌≤◌, length, IfOk};
+ghost use Rattle.core_book.specs.Kept.{IsCase};
 ghost use Rattle.core_model.specs.Layout.{amount_count};
 ghost use Rattle.core_lp.specs.CaseProgramme.{columns};
 
@@ -9,9 +10,10 @@ use core_model::closing_cell;
 use std::alloc::{AllocError, Global};
 
 /// How many places a list by line, closing day and tier has: at most 5,120.
-fn closings(case: &Case) -> usize
+pub(crate) fn closings(case: &Case) -> usize
     ensures count { result ≡ amount_count case.now }
     ensures few { result ≤ 5120 }
+    ensures kept { IsCase case.now }
 {
     case.lines() * usize::from(case.horizon()) * usize::from(case.tiers())
 }

@@ -6,15 +6,20 @@ ghost use Rattle.core_lp.specs.Laws.{BestIsValid, NoSolutionIsValid};
 
 mod built;
 mod certificate;
+mod column_numbers;
 mod columns;
 mod names;
 mod numbers;
 mod orders;
+mod places;
+mod row_numbers;
 mod rows;
 mod weights;
 
 pub use built::{Built, build};
 pub use certificate::{Parts, cert_of};
+use core_dict::weight_laws;
+use core_duals::list_law;
 pub use names::{Col, RowName};
 pub use orders::{ranks_of, variables};
 
@@ -34,8 +39,9 @@ pub fn rank_law()
 /// shows what it states, and holds in every condition of the check: of a dictionary without a negative cost or value the
 /// least calendar with its loss and weights, and of a row that cannot hold weights that refuse (Farkas 1902).
 pub fn certificate_law()
-    requires best { BestIsValid }
-    requires no_solution { NoSolutionIsValid }
     ensures best { BestIsValid }
     ensures no_solution { NoSolutionIsValid }
-{}
+{
+    list_law();
+    weight_laws();
+}

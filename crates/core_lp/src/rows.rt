@@ -44,7 +44,7 @@ fn push_back_rows(case: &Case, rows: &mut Vec<RowName>) -> Result<(), AllocError
 }
 
 /// How many places a list by instrument, closing day and tier has: at most 2,560.
-fn limits(case: &Case) -> usize
+pub(crate) fn limits(case: &Case) -> usize
     ensures count { result ≡ limit_count case.now }
     ensures few { result ≤ 2560 }
 {
@@ -52,7 +52,7 @@ fn limits(case: &Case) -> usize
 }
 
 /// How many places a list by pool and closing day has: at most 320.
-fn caps(case: &Case) -> usize
+pub(crate) fn caps(case: &Case) -> usize
     ensures count { result ≡ pool_count case.now }
     ensures few { result ≤ 320 }
 {
@@ -68,7 +68,7 @@ fn losses(case: &Case) -> usize
 }
 
 /// How many lines there are: at most 64.
-fn lines(case: &Case) -> usize
+pub(crate) fn lines(case: &Case) -> usize
     ensures count { result ≡ length case.now.lines }
     ensures few { result ≤ 64 }
 {
