@@ -1,6 +1,6 @@
 -- The numbers of the last dictionary of a case's run are those that a certificate is made from.
 use Rattle.std.proofs.Common.{◌≡◌, refl, ℕ, suc, ◌+◌, ◌/◌, ◌<◌, ◌≤◌, ◌⊎◌, inl, inr, ap, sym, ◌∙◌, subst, arith}
-use Rattle.std.proofs.Common.{ℤ, pos, negsuc, ◌*ℤ◌, ◌≤ℤ◌, unsigned_abs, List, ◌∷◌, length, map, get_or, All}
+use Rattle.std.proofs.Common.{ℤ, pos, negsuc, ◌≤ℤ◌, unsigned_abs, List, length, map, get_or, All}
 use Rattle.std.proofs.Common.{Bool, true, false, cond, ◌==◌}
 use Rattle.std.proofs.lemmas.Bool.{cases_lt}
 use Rattle.std.proofs.lemmas.Int.{ints}

@@ -1,5 +1,5 @@
 -- A case comes to exactly one thing.
-use Rattle.std.proofs.Common.{◌≡◌, ℕ, ◌⊎◌, inl, inr, refl, sym, ◌∙◌, ap, subst₂}
+use Rattle.std.proofs.Common.{◌≡◌, ℕ, inl, inr, refl, sym, ◌∙◌, ap, subst₂}
 use Rattle.core_sums.specs.Widths.{most}
 use Rattle.core_book.specs.View.{CaseView}
 use Rattle.core_model.specs.declared.cert.Cert.{Cert}

@@ -1,5 +1,5 @@
 -- Preferences that say the same of a programme's variables come to the same.
-use Rattle.std.proofs.Common.{◌≡◌, ℕ, ◌+◌, ◌<◌, ap, ap₂, sym, ◌∙◌, subst, subst₂, length}
+use Rattle.std.proofs.Common.{◌≡◌, ℕ, ◌+◌, ap, ap₂, sym, ◌∙◌, subst, subst₂, length}
 use Rattle.std.proofs.lemmas.List.{length-map}
 use Rattle.core_sums.specs.Widths.{most}
 use Rattle.core_book.specs.View.{CaseView}
@@ -8,7 +8,7 @@ use Rattle.core_dict.specs.Laws.{StartIsDictionary}
 use Rattle.core_rules.specs.Candidates.{Preference, before, lower_variable}
 use Rattle.core_rules.proofs.Choices.{pick_same}
 use Rattle.core_run.specs.Choice.{is_negative, row_candidate}
-use Rattle.core_run.specs.Run.{Turn, Pivots, turn, turn_from, turn_at}
+use Rattle.core_run.specs.Run.{Pivots, turn, turn_from, turn_at}
 use Rattle.core_run.specs.Widths.{TurnLeaves, LeavesAfter, FitsThrough, Outcome, Ended, TooWide, ComesTo}
 use Rattle.core_run.specs.Widths as run
 use Rattle.core_run.specs.Laws.{AgreeTo, RunIsSame, RunIsDictionary, RunKeeps}

@@ -11,12 +11,11 @@ use Rattle.core_margin.proofs.last.last_cert.Goals as goal
 pub cert_of-requires-clause-parts : goal.cert_of-requires-clause-parts
 cert_of-requires-clause-parts g c =
     let d = g.W.Store.dictionary c.args.ran.now.dict in
-    let h = subst (λ x. IsReached c.args.case.now d (turn_of x)) c.in-Optimal.is c.requires.reached in
-    (
+    let h = subst (λ x. IsReached c.args.case.now d (turn_of x)) c.in-Optimal.is c.requires.reached in (
       primal_numbers c.list_law.ensures c.args.case.now d h c.in_ok-primal-in-Optimal.primal
-      c.in_ok-primal-in-Optimal.ensures.exact c.in_ok-primal-in-Optimal.ensures.fits,
+          c.in_ok-primal-in-Optimal.ensures.exact c.in_ok-primal-in-Optimal.ensures.fits,
       dual_numbers c.list_law.ensures c.args.case.now d h c.in_ok-duals-in-Optimal.duals
-      c.in_ok-duals-in-Optimal.ensures.exact c.in_ok-duals-in-Optimal.ensures.fits,
+          c.in_ok-duals-in-Optimal.ensures.exact c.in_ok-duals-in-Optimal.ensures.fits,
     )
 
 pub cert_of-requires-in-Cannot-clause-parts : goal.cert_of-requires-in-Cannot-clause-parts
