@@ -1,5 +1,5 @@
 -- What is due to `margin`.
-use Rattle.std.proofs.Common.{◌≡◌, refl, ℕ, ◌⊎◌, inl, inr, List, Option, IsSome, true}
+use Rattle.std.proofs.Common.{◌≡◌, refl, ℕ, inl, inr, List, Option, IsSome, true}
 use Rattle.core_book.specs.View.{CaseView}
 use Rattle.core_book.specs.Kept.{IsCase}
 use Rattle.core_case.specs.Stated.{case_of_bytes}
@@ -15,13 +15,13 @@ use Rattle.core_cert.proofs.RoundTrip.{cert_texts_read}
 use Rattle.core_top.specs.declared.answers.File.TheVariants as files
 use Rattle.core_top.specs.OneFuture.{IsOneFuture, is_one_future, one_future_cert}
 use Rattle.core_top.specs.Answers.{cert_status}
-use Rattle.core_top.specs.Files.{HasCase, AtCase}
+use Rattle.core_top.specs.Files.{HasCase}
 use Rattle.core_top.specs.Margin.{MarginWords, MarginOf, certified, not_yet, MarginDue, IsReadBack, MarginShows, least, none, case_unread}
-use Rattle.core_top.specs.Commands.{OneRose, NoneRose, no_fault}
+use Rattle.core_top.specs.Commands.{OneRose, no_fault}
 use Rattle.core_top.proofs.OneFutureShows.{one_future_shows}
 use Rattle.core_top.proofs.OneFutureFits.{one_future_fits}
 use Rattle.core_top.proofs.FirstForm.{one-future}
-use Rattle.core_top.proofs.Statuses.{OwnStatus, is_own, bad-own, cert-own}
+use Rattle.core_top.proofs.Statuses.{OwnStatus, cert-own}
 use Rattle.core_top.proofs.AtFile.{by-cause, at-file, at-has, Is, one-at}
 
 -- a certificate that shows what it says and fits its case

@@ -1,4 +1,3 @@
-use Rattle.std.proofs.Common.{refl}
 use Rattle.core_top.specs.Margin.{certified}
 use Rattle.core_top.proofs.FirstForm.{one-future}
 use Rattle.core_top.proofs.OneFutureFits.{one_future_fits}
