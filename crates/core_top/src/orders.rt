@@ -17,7 +17,7 @@ ghost use Rattle.core_top.specs.Orders.{LeastVariable, LeastValue, LastRow, Kind
 use core_case::Case;
 use core_flows::Flows;
 use core_lp::{build, ranks_of};
-use core_margin::{MarginFault, margin};
+use core_margin::{MarginFault, margin, margin_of_programme};
 use core_model::Cert;
 use core_rules::{Cand, Rule};
 use std::alloc::Global;
@@ -142,7 +142,7 @@ fn margin_by_kinds(
             new < old || (new == old && next.var < kept.var)
         },
     );
-    margin(alloc, case, &rule, budget)
+    margin_of_programme(alloc, case, &built, &rule, budget)
 }
 
 /// The margin of a case under a rule and with a budget of pivots: its certificate, or why it has none.
