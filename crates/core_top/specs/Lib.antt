@@ -1,5 +1,6 @@
 pub mod OneFuture
 pub mod Words
+pub mod Orders
 pub mod Answers
 pub mod Files
 pub mod Around

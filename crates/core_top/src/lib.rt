@@ -19,6 +19,7 @@ mod check;
 mod files;
 mod margin;
 mod one_future;
+mod orders;
 mod stop;
 
 /// The answer of the command that the words are.
