@@ -1,4 +1,5 @@
-//! The tests of dictionaries, rules and runs, and of the numbers that these leave, a module for each, by their public calls alone.
+//! The tests of dictionaries, rules and runs, and of the numbers that these leave, a module for each, by their public
+//! calls alone, and the store that tests of margins share with them.
 //!
 //! A library with tests of its own would be proved twice, so they all stand here, over what the gate proves once.
 #![tactic(auto)]
@@ -7,8 +8,7 @@
 mod dict;
 #[cfg(test)]
 mod duals;
-#[cfg(test)]
-mod refuse;
+pub mod refuse;
 #[cfg(test)]
 mod rules;
 #[cfg(test)]
