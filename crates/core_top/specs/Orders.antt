@@ -6,8 +6,11 @@ use Rattle.core_book.specs.View.{CaseView}
 use Rattle.core_rules.specs.Candidates.{Preference, before}
 use Rattle.core_rules.specs.Kept.{plain_rule}
 use Rattle.core_lp.specs.Ranks.{ranked}
+use Rattle.core_top.specs.declared.orders.Order.{Order}
+use Rattle.core_top.specs.declared.orders.Order.TheVariants as order
 
--- that of the least variable, that of the least value, the last row, or by an order of the kinds of columns and rows
+-- that of the least variable, that of the least value, the last row, or by an order of the kinds of
+-- columns and rows
 pub data RuleWord : Type 0 where
   LeastVariable : RuleWord
   LeastValue : RuleWord
@@ -28,6 +31,13 @@ rule_of word =
     else if bytes_eq word (codes "2") then Some LastRow
     else if is_order word then Some (Kinds word)
     else None
+
+-- the rule that the program makes of it
+abbrev pub order_told : Order → RuleWord
+order_told order.LeastVariable = LeastVariable
+order_told order.LeastValue = LeastValue
+order_told order.LastRow = LastRow
+order_told (order.Kinds letters) = Kinds letters
 
 -- which candidate the rule prefers in the run of a case
 abbrev pub preference : CaseView → RuleWord → Preference
