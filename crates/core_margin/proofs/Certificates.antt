@@ -33,9 +33,11 @@ module _ (c : CaseView) (e : Dictionary) (p d : Scaled) (p_is : IsOverCommon (pr
       none : ¬ (PlacedLeaves most c (parts.Optimal p d)) → ClosesLeaves most c e → ⊥
       none stays (Primal l) = no_primal l
       none stays (Duals l) = no_duals l
-      none stays (Loss l) = stays (subst (LossLeaves most c) (sym (scaled_is (primal_of e) p p_is)) l)
+      none stays (Loss l) =
+          stays (subst (LossLeaves most c) (sym (scaled_is (primal_of e) p p_is)) l)
 
-  pub best_wide : (r ≡ Err dual.TooWide → PlacedLeaves most c (parts.Optimal p d)) → r ≡ Err dual.TooWide
+  pub best_wide : (r ≡ Err dual.TooWide → PlacedLeaves most c (parts.Optimal p d))
+      → r ≡ Err dual.TooWide
       → CertLeaves most c e Best
   best_wide h is = Loss (subst (LossLeaves most c) (scaled_is (primal_of e) p p_is) (h is))
 

@@ -1,5 +1,6 @@
 -- The numbers of a certificate leave a width, or they do not.
-use Rattle.std.proofs.Common.{ℕ, ◌<◌, ◌≤◌, ◌⊎◌, inl, inr, suc, List, [], ◌∷◌, ℤ, All, Contains, refl, arith}
+use Rattle.std.proofs.Common.{ℕ, ◌<◌, ◌≤◌, ◌⊎◌, inl, inr, suc, List, [], ◌∷◌, ℤ, All, Contains}
+use Rattle.std.proofs.Common.{refl, arith}
 use Rattle.std.proofs.Common.{unsigned_abs}
 use Rattle.std.proofs.lemmas.Bool.{cases_lt}
 use Rattle.std.proofs.lemmas.List.Elements.{All-nil, All-cons, All-contains}
@@ -10,7 +11,8 @@ use Rattle.core_dict.specs.Dictionary.{Dictionary}
 use Rattle.core_duals.specs.Lists.{primal_of, duals_of, farkas_of, over_common, CommonLeaves}
 use Rattle.core_duals.specs.Lists.{Denominator, Numerator}
 use Rattle.core_run.specs.Run.{Turn, Best, NoSolution, PivotOn}
-use Rattle.core_lp.specs.Placing.{Numerators, in_common, fixed_placed, loss_placed, LossLeaves, Product}
+use Rattle.core_lp.specs.Placing.{Numerators, in_common, fixed_placed, loss_placed, LossLeaves}
+use Rattle.core_lp.specs.Placing.{Product}
 use Rattle.core_lp.specs.Placing.{Difference, ClosesLeaves, Primal, Duals, Loss}
 use Rattle.core_margin.specs.Last.{CertLeaves}
 
@@ -26,7 +28,8 @@ module _ (most : ℕ) where
   above_or_kept (x ∷ xs) = by (cases_lt most (unsigned_abs x)) (above_or_kept xs)
     where
       by : (most < unsigned_abs x) ⊎ (unsigned_abs x ≤ most)
-          → ((z : ℤ) × Contains xs z × (most < unsigned_abs z)) ⊎ All (λ z. unsigned_abs z ≤ most) xs
+          → ((z : ℤ) × Contains xs z × (most < unsigned_abs z))
+          ⊎ All (λ z. unsigned_abs z ≤ most) xs
           → ((z : ℤ) × Contains (x ∷ xs) z × (most < unsigned_abs z))
           ⊎ All (λ z. unsigned_abs z ≤ most) (x ∷ xs)
       by (inl l) rest = inl (x, (0, omega arith, refl), l)
@@ -55,7 +58,8 @@ module _ (most : ℕ) where
   -- the loss
   loss : (c : CaseView) (x : Numerators) → IsOrNot (LossLeaves most c x)
   loss c x =
-      by (cases_lt most (unsigned_abs (fixed_placed c x))) (cases_lt most (unsigned_abs (loss_placed c x)))
+      by (cases_lt most (unsigned_abs (fixed_placed c x)))
+      (cases_lt most (unsigned_abs (loss_placed c x)))
     where
       by : (most < unsigned_abs (fixed_placed c x)) ⊎ (unsigned_abs (fixed_placed c x) ≤ most)
           → (most < unsigned_abs (loss_placed c x)) ⊎ (unsigned_abs (loss_placed c x) ≤ most)

@@ -17,24 +17,28 @@ use Rattle.core_run.specs.Answers.{HasCome, IsAnswer}
 use Rattle.core_run.specs.Answers as answers
 use Rattle.core_lp.specs.Named.{NamedProgramme, named_of}
 use Rattle.core_margin.specs.declared.fault.MarginFault.TheVariants as fault
-use Rattle.core_margin.specs.Last.{start_of, dictionary_after, turn_of, pivots_of, IsReached, IsCertOf}
+use Rattle.core_margin.specs.Last.{start_of, dictionary_after, turn_of, pivots_of, IsReached}
+use Rattle.core_margin.specs.Last.{IsCertOf}
 use Rattle.core_margin.specs.Last.{CertLeaves}
 use Rattle.core_margin.specs.Outcomes.{EndsWith, EndsWide, MarginComesTo}
 use Rattle.core_margin.specs.Answers.{outcome_of, fault_of_run, fault_of_numbers}
 use Rattle.core_margin.specs.Laws.{RunReaches}
 
 -- the start of the programme that was built
-pub start_is : (c : CaseView) (p : ProgrammeView) (b : NamedProgramme) → p ≡ b.programme → b ≡ named_of c
+pub start_is : (c : CaseView) (p : ProgrammeView) (b : NamedProgramme) → p ≡ b.programme
+    → b ≡ named_of c
     → start p ≡ start_of c
 start_is c p b e f = ap start (e ∙ ap (λ (x : NamedProgramme). x.programme) f)
 
 -- ---- the run has ended
-module _ (c : CaseView) (better : Preference) (budget : ℕ) (d e : Dictionary) (x : End) (same : d ≡ start_of c)
+module _ (c : CaseView) (better : Preference) (budget : ℕ) (d e : Dictionary) (x : End)
+    (same : d ≡ start_of c)
     (answer : IsAnswer most better d budget e (answers.outcome_of (Ok x))) where
   -- with this turn, after so many pivots
   come : HasCome most better (start_of c) budget e (Ended (pivots_of x) (turn_of x))
   come =
-      subst (λ (w : Dictionary). HasCome most better w budget e (Ended (pivots_of x) (turn_of x))) same
+      subst (λ (w : Dictionary). HasCome most better w budget e (Ended (pivots_of x) (turn_of x)))
+      same
       (by x answer)
     where
       by : (y : End) → IsAnswer most better d budget e (answers.outcome_of (Ok y))
@@ -48,7 +52,8 @@ module _ (c : CaseView) (better : Preference) (budget : ℕ) (d e : Dictionary) 
       (subst (IsReached c (dictionary_after c better (pivots_of x))) come.comes.1.is
       (law c better (pivots_of x)))
 
-  pub ends_with : (cert : Cert) → IsCertOf c e (turn_of x) cert → ¬ (CertLeaves most c e (turn_of x))
+  pub ends_with : (cert : Cert) → IsCertOf c e (turn_of x) cert
+      → ¬ (CertLeaves most c e (turn_of x))
       → EndsWith c better budget cert
   ends_with cert is fits = record {
     pivots = pivots_of x;

@@ -1,6 +1,7 @@
 -- The numbers of the last dictionary of a case's run are those that a certificate is made from.
-use Rattle.std.proofs.Common.{◌≡◌, refl, ℕ, suc, ◌+◌, ◌/◌, ◌<◌, ◌≤◌, ◌⊎◌, inl, inr, ap, sym, ◌∙◌, subst, arith}
-use Rattle.std.proofs.Common.{ℤ, pos, negsuc, ◌*ℤ◌, ◌≤ℤ◌, unsigned_abs, List, ◌∷◌, length, map, get_or, All}
+use Rattle.std.proofs.Common.{◌≡◌, refl, ℕ, suc, ◌+◌, ◌/◌, ◌<◌, ◌≤◌, ◌⊎◌, inl, inr, ap, sym, ◌∙◌}
+use Rattle.std.proofs.Common.{subst, arith}
+use Rattle.std.proofs.Common.{ℤ, pos, negsuc, ◌≤ℤ◌, unsigned_abs, List, length, map, get_or, All}
 use Rattle.std.proofs.Common.{Bool, true, false, cond, ◌==◌}
 use Rattle.std.proofs.lemmas.Bool.{cases_lt}
 use Rattle.std.proofs.lemmas.Int.{ints}
@@ -13,7 +14,8 @@ use Rattle.core_sums.proofs.Lists.{length-below}
 use Rattle.core_sums.proofs.Order.{times-nonneg}
 use Rattle.fractions.specs.Fraction.{Fraction, zero_q, one_q, ◌≤ℚ◌}
 use Rattle.fractions.specs.Common.{common_den, numerator_over}
-use Rattle.fractions.proofs.Values.{value_zero, value_one, value_self, le_from_values, values_from_le}
+use Rattle.fractions.proofs.Values.{value_zero, value_one, value_self, le_from_values}
+use Rattle.fractions.proofs.Values.{values_from_le}
 use Rattle.core_book.specs.View.{CaseView}
 use Rattle.core_dict.specs.Dictionary.{Dictionary, CostsNotNegative, cost_at, coefficient, value_of}
 use Rattle.core_dict.specs.Dictionary.{where_stands}
@@ -29,7 +31,8 @@ use Rattle.core_lp.specs.Placing.{in_common, numerators_of, AreNumerators, ArePo
 use Rattle.core_margin.specs.Last.{IsReached}
 
 -- ---- over a common denominator
-pub scaled_is : (qs : List Fraction) (s : Scaled) → IsOverCommon qs s → numerators_of s ≡ in_common qs
+pub scaled_is : (qs : List Fraction) (s : Scaled) → IsOverCommon qs s
+    → numerators_of s ≡ in_common qs
 scaled_is qs s h = λ i. record { den = h.den i; list = h.numbers i }
 
 -- what 128 bits keep
@@ -48,7 +51,8 @@ module _ (law : ListsAreOverCommon) (qs : List Fraction) (fits : ¬ (CommonLeave
           ⊎ (unsigned_abs (get_or (over_common qs) k d) ≤ most)
           → unsigned_abs (get_or (over_common qs) k d) ≤ most
       by (inl m) =
-          absurd (fits (Numerator (get_or (over_common qs) k d) (Contains-get_or (over_common qs) k d l) m))
+          absurd (fits (Numerator (get_or (over_common qs) k d)
+          (Contains-get_or (over_common qs) k d l) m))
       by (inr m) = m
 
   kept : (n : ℕ) → length qs ≡ n → AreNumerators n (in_common qs)
@@ -62,13 +66,16 @@ module _ (law : ListsAreOverCommon) (qs : List Fraction) (fits : ¬ (CommonLeave
 -- ---- signs
 -- the numerator of what is not negative is not negative
 numerator_not_negative : (m : ℕ) (q : Fraction) → zero_q ≤ℚ q → pos 0 ≤ℤ numerator_over m q
-numerator_not_negative m q h = times-nonneg q.num (pos (m / q.den)) (by q.num refl) (omega (arith, ints))
+numerator_not_negative m q h = times-nonneg q.num (pos (m / q.den)) (by q.num refl)
+    (omega (arith, ints))
   where
     by : (z : ℤ) → q.num ≡ z → pos 0 ≤ℤ z
     by (pos n) e = omega (arith, ints)
-    by (negsuc n) e = absurd (omega (arith, values_from_le value_zero (value_self q) h, ap up e, ap down e))
+    by (negsuc n) e =
+        absurd (omega (arith, values_from_le value_zero (value_self q) h, ap up e, ap down e))
 
-positive : (law : ListsAreOverCommon) (qs : List Fraction) → ¬ (CommonLeaves most qs) → (n : ℕ) → length qs ≡ n
+positive : (law : ListsAreOverCommon) (qs : List Fraction) → ¬ (CommonLeaves most qs) → (n : ℕ)
+    → length qs ≡ n
     → All (λ q. zero_q ≤ℚ q) qs → ArePositive n (in_common qs)
 positive law qs fits n e h = record {
   numerators = kept law qs fits n e;
@@ -86,7 +93,8 @@ module _ (e : Dictionary) where
 
   duals_not_negative : CostsNotNegative e → All (λ q. zero_q ≤ℚ q) (duals_of e)
   duals_not_negative h =
-      All-cons (λ q. zero_q ≤ℚ q) (cost_at e e.cols) (map (λ i. cost_at e (suc (e.cols + i))) (below e.rows))
+      All-cons (λ q. zero_q ≤ℚ q) (cost_at e e.cols)
+      (map (λ i. cost_at e (suc (e.cols + i))) (below e.rows))
       (cost_not_negative h e.cols)
       (All-map (λ q. zero_q ≤ℚ q) (λ i. cost_at e (suc (e.cols + i))) (below e.rows)
       (λ k d l. cost_not_negative h _))
@@ -102,12 +110,14 @@ module _ (e : Dictionary) where
 -- ---- of a dictionary that a case's run has reached
 module _ (law : ListsAreOverCommon) (c : CaseView) (e : Dictionary) where
   -- a list by column, or by row
-  by_column : IsReached c e Best → (f : ℕ → Fraction) → length (map f (below e.cols)) ≡ length (columns c)
+  by_column : IsReached c e Best → (f : ℕ → Fraction)
+      → length (map f (below e.cols)) ≡ length (columns c)
   by_column h f = length-map (below e.cols) f ∙ length-below e.cols ∙ h.of.keeps.cols
 
   by_row : e.rows ≡ length (programme_of c).rows → (f : ℕ → Fraction)
       → length (map f (below e.rows)) ≡ length (row_names c)
-  by_row same f = length-map (below e.rows) f ∙ length-below e.rows ∙ same ∙ length-map (row_names c) (row_of c)
+  by_row same f = length-map (below e.rows) f ∙ length-below e.rows ∙ same
+      ∙ length-map (row_names c) (row_of c)
 
   pub primal_numbers : IsReached c e Best → (s : Scaled) → IsOverCommon (primal_of e) s
       → ¬ (CommonLeaves most (primal_of e)) → AreNumerators (length (columns c)) (numerators_of s)
@@ -116,11 +126,13 @@ module _ (law : ListsAreOverCommon) (c : CaseView) (e : Dictionary) where
       (kept law (primal_of e) fits (length (columns c)) (by_column h (λ j. value_of e (suc j))))
 
   pub dual_numbers : IsReached c e Best → (s : Scaled) → IsOverCommon (duals_of e) s
-      → ¬ (CommonLeaves most (duals_of e)) → ArePositive (suc (length (row_names c))) (numerators_of s)
+      → ¬ (CommonLeaves most (duals_of e))
+      → ArePositive (suc (length (row_names c))) (numerators_of s)
   dual_numbers h s is fits =
       subst (ArePositive (suc (length (row_names c)))) (sym (scaled_is (duals_of e) s is))
       (positive law (duals_of e) fits (suc (length (row_names c)))
-      (ap suc (by_row h.of.keeps.rows (λ i. cost_at e (suc (e.cols + i))))) (duals_not_negative e h.costs))
+      (ap suc (by_row h.of.keeps.rows (λ i. cost_at e (suc (e.cols + i)))))
+      (duals_not_negative e h.costs))
 
   pub farkas_numbers : (r : ℕ) → IsReached c e (NoSolution r) → (s : Scaled)
       → IsOverCommon (farkas_of e r) s → ¬ (CommonLeaves most (farkas_of e r))

@@ -1,5 +1,5 @@
 -- A case comes to exactly one thing.
-use Rattle.std.proofs.Common.{◌≡◌, ℕ, ◌⊎◌, inl, inr, refl, sym, ◌∙◌, ap, subst₂}
+use Rattle.std.proofs.Common.{◌≡◌, ℕ, inl, inr, refl, sym, ◌∙◌, ap, subst₂}
 use Rattle.core_sums.specs.Widths.{most}
 use Rattle.core_book.specs.View.{CaseView}
 use Rattle.core_model.specs.declared.cert.Cert.{Cert}
@@ -11,13 +11,15 @@ use Rattle.core_run.specs.Widths as run
 use Rattle.core_run.specs.Laws.{SomeOutcome, OneOutcome}
 use Rattle.core_lp.specs.Placing.{closes_cert, cannot_cert}
 use Rattle.core_margin.specs.Last.{start_of, dictionary_after, IsCertOf, CertLeaves}
-use Rattle.core_margin.specs.Outcomes.{MarginOutcome, Certificate, Common, Pivot, Spent, MarginComesTo}
+use Rattle.core_margin.specs.Outcomes.{MarginOutcome, Certificate, Common, Pivot, Spent}
+use Rattle.core_margin.specs.Outcomes.{MarginComesTo}
 use Rattle.core_margin.specs.Laws.{SomeMargin, OneMargin}
 use Rattle.core_margin.proofs.Deciding.{IsOrNot, cert_leaves}
 
 -- ---- something
 -- an end has a certificate
-cert_of_end : (c : CaseView) (e : Dictionary) (t : Turn) → ¬ (Pivots t) → (cert : Cert) × IsCertOf c e t cert
+cert_of_end : (c : CaseView) (e : Dictionary) (t : Turn) → ¬ (Pivots t) → (cert : Cert)
+    × IsCertOf c e t cert
 cert_of_end c e Best n = (closes_cert c e, refl)
 cert_of_end c e (NoSolution r) n = (cannot_cert c e r, refl)
 cert_of_end c e (PivotOn r s) n = absurd (n tt)
@@ -42,7 +44,8 @@ some_margin law c better budget =
 
 -- ---- one thing
 -- an end has one certificate
-one_cert : (c : CaseView) (e : Dictionary) (t : Turn) (x y : Cert) → IsCertOf c e t x → IsCertOf c e t y → x ≡ y
+one_cert : (c : CaseView) (e : Dictionary) (t : Turn) (x y : Cert) → IsCertOf c e t x
+    → IsCertOf c e t y → x ≡ y
 one_cert c e Best x y h f = h ∙ sym f
 one_cert c e (NoSolution r) x y h f = h ∙ sym f
 one_cert c e (PivotOn r s) x y h f = absurd h
@@ -74,7 +77,8 @@ module _ (c : CaseView) (better : Preference) (budget : ℕ) where
       t_is : s ≡ t
       t_is = cc
 
-  same : (o q : MarginOutcome) (h : MarginComesTo c better budget o) (f : MarginComesTo c better budget q)
+  same : (o q : MarginOutcome) (h : MarginComesTo c better budget o)
+      (f : MarginComesTo c better budget q)
       → run_outcome o h ≡ run_outcome q f → o ≡ q
   unfolding run_outcome
   same (Certificate x) (Certificate y) h f e =
@@ -102,5 +106,6 @@ module _ (c : CaseView) (better : Preference) (budget : ℕ) where
 pub one_margin : OneOutcome → OneMargin
 one_margin law c better budget o q h f =
     same c better budget o q h f
-    (law most better (start_of c) budget (run_outcome c better budget o h) (run_outcome c better budget q f)
+    (law most better (start_of c) budget (run_outcome c better budget o h)
+    (run_outcome c better budget q f)
     (run_comes c better budget o h) (run_comes c better budget q f))

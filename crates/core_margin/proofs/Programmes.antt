@@ -9,12 +9,17 @@ use Rattle.core_dict.specs.Programme.{Row, IsProgramme}
 use Rattle.core_dict.specs.Dictionary.{IsDictionary}
 use Rattle.core_dict.specs.Laws.{StartIsDictionary}
 use Rattle.core_lp.specs.declared.names.Col.TheVariants as col
-use Rattle.core_lp.specs.CaseProgramme.{columns, line_columns, row_names, row_of, entry_at, programme_of}
+use Rattle.core_lp.specs.CaseProgramme.{columns, line_columns, row_names, row_of, entry_at}
+use Rattle.core_lp.specs.CaseProgramme.{programme_of}
 use Rattle.core_margin.specs.Last.{start_of}
 
 case_programme : (c : CaseView) → IsProgramme (programme_of c)
 case_programme c = record {
-  last_column = omega (arith, length-append (each (below (line_count c)) (line_columns c)) (col.Loss ∷ []));
+  last_column = omega (
+    arith,
+    length-append (each (below (line_count c)) (line_columns c))
+        (col.Loss ∷ []),
+  );
   widths =
       All-map (λ (r : Row). length r.entries ≡ length (columns c)) (row_of c) (row_names c)
       (λ k d l. length-map (columns c) (entry_at c _));

@@ -41,5 +41,6 @@ module _ (best : BestIsValid) (no_solution : NoSolutionIsValid) where
   pub margins_valid : RunReaches → MarginIsValid
   margins_valid reaches c better budget cert kept h =
       valid_of c (dictionary_after c better h.pivots) h.turn cert kept
-      (subst (IsReached c (dictionary_after c better h.pivots)) h.ended.1.is (reaches c better h.pivots))
+      (subst (IsReached c (dictionary_after c better h.pivots)) h.ended.1.is
+      (reaches c better h.pivots))
       h.is

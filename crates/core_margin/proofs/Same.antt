@@ -1,5 +1,5 @@
 -- Preferences that say the same of a programme's variables come to the same.
-use Rattle.std.proofs.Common.{◌≡◌, ℕ, ◌+◌, ◌<◌, ap, ap₂, sym, ◌∙◌, subst, subst₂, length}
+use Rattle.std.proofs.Common.{◌≡◌, ℕ, ◌+◌, ap, ap₂, sym, ◌∙◌, subst, subst₂, length}
 use Rattle.std.proofs.lemmas.List.{length-map}
 use Rattle.core_sums.specs.Widths.{most}
 use Rattle.core_book.specs.View.{CaseView}
@@ -8,20 +8,24 @@ use Rattle.core_dict.specs.Laws.{StartIsDictionary}
 use Rattle.core_rules.specs.Candidates.{Preference, before, lower_variable}
 use Rattle.core_rules.proofs.Choices.{pick_same}
 use Rattle.core_run.specs.Choice.{is_negative, row_candidate}
-use Rattle.core_run.specs.Run.{Turn, Pivots, turn, turn_from, turn_at}
-use Rattle.core_run.specs.Widths.{TurnLeaves, LeavesAfter, FitsThrough, Outcome, Ended, TooWide, ComesTo}
+use Rattle.core_run.specs.Run.{Pivots, turn, turn_from, turn_at}
+use Rattle.core_run.specs.Widths.{TurnLeaves, LeavesAfter, FitsThrough, Outcome, Ended, TooWide}
+use Rattle.core_run.specs.Widths.{ComesTo}
 use Rattle.core_run.specs.Widths as run
 use Rattle.core_run.specs.Laws.{AgreeTo, RunIsSame, RunIsDictionary, RunKeeps}
 use Rattle.core_lp.specs.CaseProgramme.{columns, row_names, row_of}
 use Rattle.core_lp.specs.Ranks.{variable_count, ranked, as_numbered}
 use Rattle.core_lp.specs.Laws.{AsNumberedIsLeast}
 use Rattle.core_margin.specs.Last.{start_of, dictionary_after, IsCertOf, CertLeaves}
-use Rattle.core_margin.specs.Outcomes.{MarginOutcome, Certificate, Common, Pivot, Spent, MarginComesTo}
+use Rattle.core_margin.specs.Outcomes.{MarginOutcome, Certificate, Common, Pivot, Spent}
+use Rattle.core_margin.specs.Outcomes.{MarginComesTo}
 use Rattle.core_margin.specs.Laws.{MarginIsSame, HouseOrderIsLeast}
 use Rattle.core_margin.proofs.Programmes.{case_start}
 
-module _ (start : StartIsDictionary) (runs : RunIsSame) (keeps : RunKeeps) (dictionary : RunIsDictionary) where
-  module _ (c : CaseView) (better other : Preference) (agree : AgreeTo (variable_count c) better other) where
+module _ (start : StartIsDictionary) (runs : RunIsSame) (keeps : RunKeeps)
+    (dictionary : RunIsDictionary) where
+  module _ (c : CaseView) (better other : Preference)
+      (agree : AgreeTo (variable_count c) better other) where
     agree_start : AgreeTo ((start_of c).cols + (start_of c).rows) better other
     agree_start =
         subst (λ (n : ℕ). AgreeTo (length (columns c) + n) better other)
@@ -32,7 +36,8 @@ module _ (start : StartIsDictionary) (runs : RunIsSame) (keeps : RunKeeps) (dict
     stands k = runs better other (start_of c) k (case_start start c).variables agree_start
 
     -- the same turn at it
-    numbered : (k : ℕ) → AreNumbered (dictionary_after c other k) ((start_of c).cols + (start_of c).rows)
+    numbered : (k : ℕ) → AreNumbered (dictionary_after c other k)
+        ((start_of c).cols + (start_of c).rows)
     numbered k =
         let s = keeps other (start_of c) k in
         subst (λ (n : ℕ). AreNumbered (dictionary_after c other k) n) (ap₂ ◌+◌ s.cols s.rows)
@@ -43,16 +48,19 @@ module _ (start : StartIsDictionary) (runs : RunIsSame) (keeps : RunKeeps) (dict
     picks e n =
         ap (turn_from e)
         (pick_same better other (λ i. is_negative (e.value i)) (row_candidate e) e.rows
-        (λ i j l m. agree_start (row_candidate e i) (row_candidate e j) (n.basic i l) (n.basic j m)))
+        (λ i j l m. agree_start (row_candidate e i) (row_candidate e j) (n.basic i l)
+        (n.basic j m)))
 
     turns : (k : ℕ) → turn_at better (start_of c) k ≡ turn_at other (start_of c) k
     turns k = ap (turn better) (stands k) ∙ picks (dictionary_after c other k) (numbered k)
 
     -- so what is said of dictionaries and their turns
-    leaves : (k : ℕ) → LeavesAfter most better (start_of c) k → LeavesAfter most other (start_of c) k
+    leaves : (k : ℕ) → LeavesAfter most better (start_of c) k
+        → LeavesAfter most other (start_of c) k
     leaves k h = subst₂ (TurnLeaves most) (stands k) (turns k) h
 
-    unleaves : (k : ℕ) → LeavesAfter most other (start_of c) k → LeavesAfter most better (start_of c) k
+    unleaves : (k : ℕ) → LeavesAfter most other (start_of c) k
+        → LeavesAfter most better (start_of c) k
     unleaves k h = subst₂ (TurnLeaves most) (sym (stands k)) (sym (turns k)) h
 
     fits : (k : ℕ) → FitsThrough most better (start_of c) k → FitsThrough most other (start_of c) k
@@ -100,4 +108,5 @@ module _ (start : StartIsDictionary) (runs : RunIsSame) (keeps : RunKeeps) (dict
 
   pub house_order_is_least : AsNumberedIsLeast → HouseOrderIsLeast
   house_order_is_least law c budget o =
-      margin_is_same c (before (ranked c as_numbered)) lower_variable budget o (λ x y l m. law c x y l m)
+      margin_is_same c (before (ranked c as_numbered)) lower_variable budget o
+      (λ x y l m. law c x y l m)

@@ -1,5 +1,5 @@
 -- What the answer of a margin says.
-use Rattle.std.specs.Prelude.{ℕ, Option, None, Some, Result, Ok, Err}
+use Rattle.std.specs.Prelude.{Option, None, Some, Result, Ok, Err}
 use Rattle.core_model.specs.declared.cert.Cert.{Cert}
 use Rattle.core_run.specs.declared.end.RunFault.{RunFault}
 use Rattle.core_run.specs.declared.end.RunFault.TheVariants as run

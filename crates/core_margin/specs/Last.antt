@@ -36,7 +36,7 @@ pub record IsReached (c : CaseView) (e : Dictionary) (t : Turn) : Type 0 where
   pub costs : CostsNotNegative e
   pub says : TurnSays e t
 
--- a certificate is that of a dictionary at which a turn has ended the run; where the turn pivots there is none
+-- a certificate is that of a run's end at its last dictionary; a turn that pivots has none
 abbrev pub IsCertOf : CaseView → Dictionary → Turn → Cert → Type 0
 IsCertOf c e Best cert = cert ≡ closes_cert c e
 IsCertOf c e (NoSolution r) cert = cert ≡ cannot_cert c e r

@@ -15,12 +15,14 @@ use Rattle.core_margin.specs.Outcomes.{MarginOutcome, EndsWith, MarginComesTo}
 -- Every case comes to something, under every preference and with every budget.
 abbrev pub SomeMargin : Type 0
 SomeMargin =
-    (c : CaseView) (better : Preference) (budget : ℕ) → (o : MarginOutcome) × MarginComesTo c better budget o
+    (c : CaseView) (better : Preference) (budget : ℕ) → (o : MarginOutcome)
+    × MarginComesTo c better budget o
 
 -- And to nothing else.
 abbrev pub OneMargin : Type 0
 OneMargin =
-    (c : CaseView) (better : Preference) (budget : ℕ) (o q : MarginOutcome) → MarginComesTo c better budget o
+    (c : CaseView) (better : Preference) (budget : ℕ) (o q : MarginOutcome)
+    → MarginComesTo c better budget o
     → MarginComesTo c better budget q → o ≡ q
 
 -- Under two preferences that say the same of the programme's variables it comes to the same.
@@ -30,14 +32,15 @@ MarginIsSame =
     → AgreeTo (variable_count c) better other
     → (MarginComesTo c better budget o ↔ MarginComesTo c other budget o)
 
--- So under a house's order of the kinds, where it is the one in which the variables are numbered, it comes to what it
--- does where the least variable leaves.
+-- So the order of kinds in which the variables are numbered comes to what the least variable does.
 abbrev pub HouseOrderIsLeast : Type 0
 HouseOrderIsLeast =
     (c : CaseView) (budget : ℕ) (o : MarginOutcome)
-    → (MarginComesTo c (before (ranked c as_numbered)) budget o ↔ MarginComesTo c lower_variable budget o)
+    → (MarginComesTo c (before (ranked c as_numbered)) budget o
+    ↔ MarginComesTo c lower_variable budget o)
 
--- Each dictionary of a run is one of the case's programme without a negative cost, and its turn says the truth of it.
+-- Each dictionary of a run is one of the case's programme without a negative cost, and its turn
+-- says the truth of it.
 abbrev pub RunReaches : Type 0
 RunReaches =
     (c : CaseView) (better : Preference) (k : ℕ)
@@ -46,5 +49,6 @@ RunReaches =
 -- The certificate that a case comes to shows what it states, and holds at every place of the check.
 abbrev pub MarginIsValid : Type 0
 MarginIsValid =
-    (c : CaseView) (better : Preference) (budget : ℕ) (cert : Cert) → IsCase c → EndsWith c better budget cert
+    (c : CaseView) (better : Preference) (budget : ℕ) (cert : Cert) → IsCase c
+    → EndsWith c better budget cert
     → Shows c cert × IsValid c cert

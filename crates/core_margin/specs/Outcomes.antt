@@ -9,14 +9,14 @@ use Rattle.core_run.specs.Widths.{ComesTo, Ended, TooWide}
 use Rattle.core_run.specs.Widths as run
 use Rattle.core_margin.specs.Last.{start_of, dictionary_after, IsCertOf, CertLeaves}
 
--- a certificate, or one that 128 bits do not keep, or a pivot that they do not keep, or a budget that is spent
+-- a certificate, one of which a number leaves 128 bits, a pivot that leaves them, or a spent budget
 pub data MarginOutcome : Type 0 where
   Certificate : Cert → MarginOutcome
   Common : MarginOutcome
   Pivot : ℕ → MarginOutcome
   Spent : MarginOutcome
 
--- the run has ended within the budget, and its last dictionary gives a certificate of which no number leaves
+-- the run has ended within the budget with this certificate, of which no number leaves
 pub record EndsWith (c : CaseView) (better : Preference) (budget : ℕ) (cert : Cert) : Type 0 where
   pub pivots : ℕ
   pub turn : Turn
@@ -24,7 +24,7 @@ pub record EndsWith (c : CaseView) (better : Preference) (budget : ℕ) (cert : 
   pub fits : ¬ (CertLeaves most c (dictionary_after c better pivots) turn)
   pub is : IsCertOf c (dictionary_after c better pivots) turn cert
 
--- the run has ended within the budget, and a number of the certificate of its last dictionary leaves
+-- the run has ended within the budget with a certificate of which a number leaves
 pub record EndsWide (c : CaseView) (better : Preference) (budget : ℕ) : Type 0 where
   pub pivots : ℕ
   pub turn : Turn

@@ -25,8 +25,8 @@ use exact_frac::{Frac64, Frac128};
 use std::alloc::Global;
 
 /// The certificate of a case, over given stores of 64 and of 128 bits: a calendar with the least worst loss, that loss
-/// and weights that bound every loss by it, or weights that refuse every calendar. It is read off the last dictionary of
-/// the run of the case's programme by the dual simplex method (Lemke 1954), whose leaving rows the rule picks.
+/// and weights that bound every loss by it, or weights that refuse every calendar. It is read off the last dictionary
+/// of the run of the case's programme by the dual simplex method (Lemke 1954), whose leaving rows the rule picks.
 ///
 /// `Pivot` comes exactly where a pivot within the budget leaves 128 bits, after pivots that all fit, and names that
 /// pivot, counted from 1. `Common` comes exactly where the run has ended within the budget, and a number of the

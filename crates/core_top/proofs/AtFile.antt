@@ -1,10 +1,10 @@
 -- What follows of an answer that is due at a file.
-use Rattle.std.proofs.Common.{◌≡◌, refl, sym, ◌∙◌, ap, subst, ℕ, ◌<◌, ◌≤◌, ◌⊎◌, inl, inr, List, length, arith, Option, Some, None, IfSome, IsSome, Result, Ok, Err}
+use Rattle.std.proofs.Common.{◌≡◌, refl, sym, ◌∙◌, subst, ℕ, ◌<◌, ◌≤◌, ◌⊎◌, inl, inr, List, length, arith, Option, Some, None, IfSome, IsSome, Result, Ok, Err}
 use Rattle.core_io.specs.Causes.{Rose}
 use Rattle.core_top.specs.declared.answers.File.{File}
 use Rattle.core_top.specs.declared.answers.Line.TheVariants.{Unread, Bad}
 use Rattle.core_top.specs.Answers.{bad_status, line_text}
-use Rattle.core_top.specs.Files.{file_limit, ReadAs, Has, IsUnread, unread, too_long, AtFile, not_read, faulty, stated}
+use Rattle.core_top.specs.Files.{file_limit, ReadAs, Has, unread, too_long, AtFile, not_read, faulty, stated}
 
 -- the answer, by its causes
 pub by-cause : {T : Type 0} (file : File) (reads : List ℕ → Result T (ℕ × ℕ)) (told : Option (List ℕ)) (risen : Type 0) (Then : T → ℕ → List ℕ → Type 0) (P : ℕ → List ℕ → Type 0)

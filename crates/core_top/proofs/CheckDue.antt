@@ -1,18 +1,18 @@
 -- What is due to `check`.
-use Rattle.std.proofs.Common.{◌≡◌, refl, sym, ◌∙◌, ℕ, ◌⊎◌, inl, inr, List, Option, IsSome, Ok}
+use Rattle.std.proofs.Common.{◌≡◌, refl, sym, ◌∙◌, ℕ, inl, inr, List, Option, IsSome}
 use Rattle.core_book.specs.View.{CaseView}
 use Rattle.core_case.specs.Stated.{case_of_bytes}
 use Rattle.core_model.specs.declared.cert.Cert.{Cert}
 use Rattle.core_model.specs.declared.cert.Cert.TheVariants.{Closes, Cannot}
 use Rattle.core_model.specs.Shows.{Shows}
-use Rattle.core_model.specs.Check.{Verdict, verdict, Passed, Failed, Wide}
+use Rattle.core_model.specs.Check.{verdict, Passed, Failed, Wide}
 use Rattle.core_cert.specs.Stated.{cert_of_bytes}
 use Rattle.core_top.specs.declared.answers.File.TheVariants as files
 use Rattle.core_top.specs.Answers.{line_status, line_text}
-use Rattle.core_top.specs.Files.{ReadAs, HasCase, HasCert, AtCert}
+use Rattle.core_top.specs.Files.{HasCase, HasCert, AtCert}
 use Rattle.core_top.specs.Check.{CheckWords, accepted_line, Judged, accepted, refused, too_wide, CheckDue, CheckShows, accepts_least, accepts_none, refuses, leaves, too_long, no_cert, case_unread, cert_unread}
 use Rattle.core_top.specs.Commands.{OneRose, no_fault}
-use Rattle.core_top.proofs.Statuses.{OwnStatus, is_own}
+use Rattle.core_top.proofs.Statuses.{OwnStatus}
 use Rattle.core_top.proofs.AtFile.{by-cause, at-file, at-has, has-told, with-told, Is, one-at}
 
 -- what is due to a certificate that passes

@@ -1,7 +1,7 @@
 -- What is due to the words, a line for each command.
 use Rattle.std.proofs.Common.{◌≡◌, refl, sym, ◌∙◌, ℕ, ◌⊎◌, inl, inr, List, Option, Some, None}
 use Rattle.core_margin.specs.Laws.{OneMargin}
-use Rattle.core_top.specs.Commands.{Command, Margin, Check, IsDue, names_read, AllTold, NoneRose, OneRose, no_fault}
+use Rattle.core_top.specs.Commands.{Command, Margin, Check, IsDue, names_read, AllTold, NoneRose, no_fault}
 use Rattle.core_top.proofs.Statuses.{OwnStatus}
 use Rattle.core_top.proofs.AtFile.{Is}
 use Rattle.core_top.proofs.MarginDue.{margin-calm, margin-own, margin-one}

@@ -1,8 +1,7 @@
 -- The fields of every line are plain, so its text is one record.
-use Rattle.std.proofs.Common.{◌≡◌, refl, [], ◌∷◌, ℕ, List, codes, decimal, pos, length, nat_le, true, ◌&&◌}
-use Rattle.std.specs.List.{list_all}
+use Rattle.std.proofs.Common.{refl, [], ◌∷◌, ℕ, List, codes, pos}
 use Rattle.core_rows.specs.Fields.{number_text}
-use Rattle.core_rows.specs.Written.{is_plain_byte, IsPlainField, IsPlainRow}
+use Rattle.core_rows.specs.Written.{IsPlainField, IsPlainRow}
 use Rattle.core_rows.proofs.Plain.{number_text-plain, row-plain-one, row-plain-more, word-plain}
 use Rattle.core_top.specs.declared.answers.File.{File}
 use Rattle.core_top.specs.declared.answers.File.TheVariants as files

@@ -1,5 +1,5 @@
 -- What is due to `margin`.
-use Rattle.std.proofs.Common.{◌≡◌, ◌≢◌, refl, sym, ◌∙◌, ap, ℕ, ◌^◌, ◌≤◌, ◌⊎◌, inl, inr, List, Option, IsSome}
+use Rattle.std.proofs.Common.{◌≡◌, ◌≢◌, refl, sym, ◌∙◌, ap, ℕ, ◌^◌, ◌≤◌, inl, inr, List, Option, IsSome}
 use Rattle.core_book.specs.View.{CaseView}
 use Rattle.core_book.specs.Kept.{IsCase}
 use Rattle.core_case.specs.Stated.{case_of_bytes}

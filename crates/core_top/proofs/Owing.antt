@@ -1,11 +1,11 @@
 -- Every sentence of the top call follows from the answer that is due and from what the shelf and the sink keep.
-use Rattle.std.proofs.Common.{◌≡◌, ◌≢◌, refl, sym, subst, ℕ, ◌⊎◌, inl, inr, List, Option, Some, None}
+use Rattle.std.proofs.Common.{◌≡◌, ◌≢◌, refl, subst, ℕ, ◌⊎◌, inl, inr, List, Option, None}
 use Rattle.core_io.specs.States.{KeepsBytes, KeepsCounts, KeepsCount}
 use Rattle.core_margin.specs.Laws.{MarginIsValid}
-use Rattle.core_top.specs.Around.{Around, told, ShelfRose, SinkRose, Answered, written, cut, unanswered}
+use Rattle.core_top.specs.Around.{Around, told, ShelfRose, Answered, written, cut, unanswered}
 use Rattle.core_top.specs.Margin.{MarginShows, IsNeverSpent}
 use Rattle.core_top.specs.Check.{CheckShows}
-use Rattle.core_top.specs.Commands.{Command, Margin, Check, command_of, names_read, IsDue, NoneRose}
+use Rattle.core_top.specs.Commands.{Command, command_of, names_read, IsDue}
 use Rattle.core_top.specs.Headline.{IsExact, IsComplete, HasCauses, Owes}
 use Rattle.core_top.proofs.Statuses.{OwnStatus, never-2, never-7, never-8, read-6}
 use Rattle.core_top.proofs.MarginDue.{margin-shows, margin-serves}

@@ -2,9 +2,7 @@
 use Rattle.std.proofs.Common.{◌≡◌, refl, ℕ, ◌⊎◌, inl, inr, List, Bool, true, not, ◌&&◌, ◌==◌}
 use Rattle.core_model.specs.declared.cert.Cert.{Cert}
 use Rattle.core_model.specs.declared.cert.Cert.TheVariants.{Closes, Cannot}
-use Rattle.core_top.specs.declared.answers.File.{File}
-use Rattle.core_top.specs.declared.answers.File.TheVariants as files
-use Rattle.core_top.specs.Answers.{bad_status, cert_status}
+use Rattle.core_top.specs.Answers.{cert_status}
 use Rattle.core_top.specs.Commands.{OneRose}
 
 -- none of those that the words, a read, the sink and memory have
@@ -13,10 +11,6 @@ is_own s = not (s == 2) && not (s == 6) && not (s == 7) && not (s == 8)
 
 abbrev pub OwnStatus : (List ℕ → Type 0) → List (List ℕ) → ℕ → Type 0
 OwnStatus rose names s = (is_own s ≡ true) ⊎ ((s ≡ 6) × OneRose rose names)
-
-pub bad-own : (file : File) → is_own (bad_status file) ≡ true
-bad-own files.Case = refl
-bad-own files.Cert = refl
 
 pub cert-own : (x : Cert) → is_own (cert_status x) ≡ true
 cert-own (Closes calendar loss weights) = refl

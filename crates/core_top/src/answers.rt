@@ -1,7 +1,5 @@
 // The answers of a call, and the text of each.
 ghost use Rattle.std.specs.Prelude.{◌≡◌, ◌∷◌, [], ◌++◌, decimal, IfOk};
-ghost use Rattle.core_rows.specs.Fields.{row_text};
-ghost use Rattle.core_rows.specs.Written.{IsPlainRow};
 ghost use Rattle.core_top.specs.Answers.{answer_status, answer_text, cert_status, fields_of, line_status, line_text, word_of, Says};
 
 use core_model::Cert;

@@ -1,5 +1,5 @@
 // The files of a call: what they state under their names, or the line where they state nothing.
-ghost use Rattle.std.specs.Prelude.{◌≡◌, ◌≤◌, Ok, IfOk, IfErr, IfSome, Some, length};
+ghost use Rattle.std.specs.Prelude.{◌≡◌, ◌≤◌, Ok, IfOk, IfErr, IfSome, length};
 ghost use Rattle.core_io.specs.States.{KeepsBytes, KeepsCounts, ReadFailed};
 ghost use Rattle.core_case.specs.Stated.{case_of_bytes};
 ghost use Rattle.core_model.specs.Fits.{Fits};

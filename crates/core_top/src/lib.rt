@@ -2,7 +2,7 @@
 #![tactic(auto)]
 
 ghost use Rattle.std.specs.Prelude.{IfOk};
-ghost use Rattle.core_io.specs.States.{KeepsBytes, KeepsCounts, KeepsCount};
+ghost use Rattle.core_io.specs.States.{KeepsBytes, KeepsCounts};
 ghost use Rattle.core_top.specs.Words.{words_of};
 ghost use Rattle.core_top.specs.Answers.{ComesTo};
 ghost use Rattle.core_top.specs.Around.{Between, around};

@@ -1,5 +1,5 @@
-//! The tests of replays, of certificates and their check, and of the top call, a module for each, by their public
-//! calls alone.
+//! The tests of replays, of certificates and their check, of programmes, and of the top call, a module for each, by
+//! their public calls alone.
 //!
 //! A library with tests of its own would be proved twice, so they all stand here, over what the gate proves once.
 #![tactic(auto)]
@@ -8,6 +8,8 @@
 mod cert;
 #[cfg(test)]
 mod check;
+#[cfg(test)]
+mod programme;
 #[cfg(test)]
 mod replay;
 #[cfg(test)]

@@ -22,7 +22,8 @@ returns-in_err-ran-clause-serves g c goes enough b is =
     let same =
     start_is c.args.case.now c.programme.result.now c.in_ok-built.built c.programme.ensures.value
     c.in_ok-built.ensures in
-    let exit = err_from_is_err_and c.from_residual-in_err-ran.result c.from_residual-in_err-ran.ensures.1 in
+    let exit = err_from_is_err_and c.from_residual-in_err-ran.result
+    c.from_residual-in_err-ran.ensures.1 in
     let spent : fault_of_run c.in_err-ran.field-0.0 ≡ fault.Spent b = cc in
     c.in_err-ran.ensures.serves (subst (GoesByVariable (rule_view c.args.rule.now)) (sym same) goes)
     (subst (λ d. 2 ^ (d.rows + d.cols) ≤ c.args.budget) (sym same) enough) b
@@ -38,13 +39,15 @@ last_cert-requires-clause-reached g c =
 
 pub returns-in_err-cert-clause-answer : goal.returns-in_err-cert-clause-answer
 returns-in_err-cert-clause-answer g c =
-    let exit = err_from_is_err_and c.from_residual-in_err-cert.result c.from_residual-in_err-cert.ensures.1 in
+    let exit = err_from_is_err_and c.from_residual-in_err-cert.result
+    c.from_residual-in_err-cert.ensures.1 in
     rw (exit.1, exit.2)
     (numbers_fault c.args.case.now (before (rule_view c.args.rule.now)) c.args.budget
     (start c.programme.result.now) (g.W.Store.dictionary c.in_ok-ran.ran.dict) c.in_ok-ran.ran.end
     (start_is c.args.case.now c.programme.result.now c.in_ok-built.built c.programme.ensures.value
     c.in_ok-built.ensures)
-    c.in_ok-ran.ensures.ended c.in_err-cert.field-0.0 (λ is. c.in_err-cert.ensures.too_wide (ap Err is)))
+    c.in_ok-ran.ensures.ended c.in_err-cert.field-0.0
+    (λ is. c.in_err-cert.ensures.too_wide (ap Err is)))
 
 pub returns-clause-answer : goal.returns-clause-answer
 returns-clause-answer g c =
@@ -62,7 +65,8 @@ returns-clause-shows g c =
     (start c.programme.result.now) (g.W.Store.dictionary c.in_ok-ran.ran.dict) c.in_ok-ran.ran.end
     (start_is c.args.case.now c.programme.result.now c.in_ok-built.built c.programme.ensures.value
     c.in_ok-built.ensures)
-    c.in_ok-ran.ensures.ended c.in_ok-cert.cert c.in_ok-cert.ensures.is c.in_ok-cert.ensures.kept)).0
+    c.in_ok-ran.ensures.ended c.in_ok-cert.cert c.in_ok-cert.ensures.is
+    c.in_ok-cert.ensures.kept)).0
 
 pub returns-clause-valid : goal.returns-clause-valid
 returns-clause-valid g c =
@@ -72,4 +76,5 @@ returns-clause-valid g c =
     (start c.programme.result.now) (g.W.Store.dictionary c.in_ok-ran.ran.dict) c.in_ok-ran.ran.end
     (start_is c.args.case.now c.programme.result.now c.in_ok-built.built c.programme.ensures.value
     c.in_ok-built.ensures)
-    c.in_ok-ran.ensures.ended c.in_ok-cert.cert c.in_ok-cert.ensures.is c.in_ok-cert.ensures.kept)).1
+    c.in_ok-ran.ensures.ended c.in_ok-cert.cert c.in_ok-cert.ensures.is
+    c.in_ok-cert.ensures.kept)).1

@@ -1,0 +1,129 @@
+// The report of a certificate.
+ghost use Rattle.std.specs.Prelude.{◌≡◌, ◌≤ℤ◌, ◌++◌, ◌∷◌, [], codes, pos, IsTrue, OnOk, IfOk};
+ghost use Rattle.core_rows.specs.Written.{rows_text};
+ghost use Rattle.core_book.specs.Kept.{IsCase};
+ghost use Rattle.core_model.specs.Bounds.{AreRefusing};
+ghost use Rattle.core_model.specs.Check.{verdict, Passed};
+ghost use Rattle.core_model.specs.Fits.{IsKept, WeightsFit};
+ghost use Rattle.core_model.specs.declared.cert.Cert.TheVariants.{Cannot};
+ghost use Rattle.core_cert.specs.Written.{is_plain_word};
+ghost use Rattle.core_report.specs.Records.{cannot_records, loss_records, ratio_record, rounded_up};
+ghost use Rattle.core_report.specs.Report.{AreDates, IsCannotReport};
+ghost use Rattle.core_report.specs.Stays.{BoundStays};
+
+use crate::dates::Dates;
+use crate::row::{Row, put};
+use crate::weights;
+use core_book::Case;
+use core_model::Weights;
+use std::alloc::{AllocError, Global};
+
+/// A number that is not negative over a denominator, rounded up to a whole number.
+fn rounded_up(number: i128, den: i128) -> i128
+    requires number { pos 0 ≤ℤ number }
+    requires den { pos 1 ≤ℤ den }
+    ensures { result ≡ pos (rounded_up number den) }
+{
+    number.unsigned_abs().div_ceil(den.unsigned_abs()) as i128
+}
+
+/// Prints a record of two words.
+fn put_words(
+    alloc: Global,
+    out: &mut Vec<u8>,
+    first: &[u8],
+    second: &[u8],
+) -> Result<(), AllocError>
+    requires first { IsTrue (is_plain_word first.now) }
+    requires second { IsTrue (is_plain_word second.now) }
+    ensures { OnOk result (out.new.items
+        ≡ out.old.items ++ rows_text ((first.now ∷ second.now ∷ []) ∷ [])) }
+{
+    let mut row = Row::start(alloc, first)?;
+    row.push_word(second)?;
+    put(alloc, out, &row)
+}
+
+/// Prints a record of a word and a number over a denominator.
+fn put_ratio(
+    alloc: Global,
+    out: &mut Vec<u8>,
+    word: &[u8],
+    number: i128,
+    den: i128,
+) -> Result<(), AllocError>
+    requires word { IsTrue (is_plain_word word.now) }
+    requires number { IsKept number }
+    requires den { pos 1 ≤ℤ den }
+    ensures { OnOk result (out.new.items
+        ≡ out.old.items ++ rows_text (ratio_record word.now number den ∷ [])) }
+{
+    let mut row = Row::start(alloc, word)?;
+    row.push_ratio(number, den)?;
+    put(alloc, out, &row)
+}
+
+/// Prints the last record.
+fn put_end(alloc: Global, out: &mut Vec<u8>) -> Result<(), AllocError>
+    ensures { OnOk result (out.new.items ≡ out.old.items ++ rows_text ((codes "end" ∷ []) ∷ [])) }
+{
+    put(alloc, out, &Row::start(alloc, b"end")?)
+}
+
+/// Prints a loss, its margin, and the margin rounded up.
+fn put_loss(alloc: Global, out: &mut Vec<u8>, loss: i128, den: i128) -> Result<(), AllocError>
+    requires loss { IsKept loss }
+    requires den { pos 1 ≤ℤ den }
+    ensures { OnOk result (out.new.items ≡ out.old.items ++ rows_text (loss_records loss den)) }
+{
+    let margin = loss.max(0);
+    put_ratio(alloc, out, b"loss", loss, den)?;
+    put_ratio(alloc, out, b"margin", margin, den)?;
+    let mut row = Row::start(alloc, b"charge")?;
+    row.push_number(rounded_up(margin, den))?;
+    put(alloc, out, &row)
+}
+
+/// The report of weights that refuse every calendar.
+fn cannot_report(
+    alloc: Global,
+    case: &Case,
+    dates: &Dates,
+    weights: &Weights,
+) -> Result<Vec<u8>, AllocError>
+    requires kept { IsCase case.now }
+    requires dates { AreDates case.now dates.now }
+    requires fits { WeightsFit case.now weights.now }
+    requires refusing { AreRefusing case.now weights.now }
+    requires stays { BoundStays case.now weights.now }
+    ensures { IfOk result (λ text. text.items
+        ≡ rows_text (cannot_records case.now dates.now weights.now)) }
+{
+    let mut out = Vec::new(alloc);
+    put_words(alloc, &mut out, b"report", b"cannot")?;
+    let short = weights::short(case, weights);
+    put_ratio(alloc, &mut out, b"short", short, weights.den)?;
+    weights::put_fulls(alloc, &mut out, case, weights)?;
+    weights::put_limits(alloc, &mut out, case, dates, weights)?;
+    weights::put_pools(alloc, &mut out, case, dates, weights)?;
+    put_end(alloc, &mut out)?;
+    Ok(out)
+}
+
+/// The text of the report of weights that refuse every calendar, for a certificate that the check accepts: records of
+/// fields joined by commas, each ended by a line feed. Fractions are two fields in lowest terms.
+///
+/// There are: by how much the book is short, which is the bound of the weights, and then the weights that are not 0, by
+/// line, by day, instrument and tier, and by day and pool, all over the weights' denominator. Tiers are named where an
+/// instrument of the case has more than one. The only error is want of memory.
+pub fn report_refusal(alloc: Global, case: &Case, weights: &Weights) -> Result<Vec<u8>, AllocError>
+    requires fits { WeightsFit case.now weights.now }
+    requires passed { verdict case.now (Cannot weights.now) ≡ Passed }
+    requires refusing { AreRefusing case.now weights.now }
+    ensures { IfOk result (λ text. IsCannotReport case.now weights.now text.items) }
+{
+    // Every case keeps the bounds that the places of the weights stand on.
+    let _kept = case.horizon();
+    let dates = Dates::of_case(alloc, case)?;
+    cannot_report(alloc, case, &dates, weights)
+}
