@@ -6,6 +6,7 @@ ghost use Rattle.core_model.specs.Shows.{Shows};
 ghost use Rattle.core_rules.specs.Candidates.{before};
 ghost use Rattle.core_rules.specs.Kept.{Keeps, rule_view};
 ghost use Rattle.core_run.specs.Ranked.{AreRanked, GoesByVariable};
+ghost use Rattle.core_lp.specs.Named.{named_of};
 ghost use Rattle.core_lp.specs.Placing.{HasNoScenario};
 ghost use Rattle.core_margin.specs.Last.{start_of};
 ghost use Rattle.core_margin.specs.Outcomes.{MarginComesTo};
@@ -17,12 +18,41 @@ use crate::{run_reaches, valid_margins};
 use core_book::Case;
 use core_dict::{Dense, Store, Widen};
 use core_flows::Flows;
-use core_lp::build;
+use core_lp::{Built, build};
 use core_model::Cert;
 use core_rules::{Cand, Rule};
 use core_run::{Ran, run_wide};
 use exact_frac::{Frac64, Frac128};
 use std::alloc::Global;
+
+/// The certificate of a case whose programme is built, over given stores: see [`margin_over`].
+fn margin_of_programme_over<'a, N: Widen<W>, W: Store<Frac128>, F: Fn(&Cand, &Cand) -> bool>(
+    alloc: Global,
+    case: &Case,
+    built: &Built,
+    rule: &Rule<'a, F>,
+    budget: u64,
+) -> Result<Cert, MarginFault>
+    requires built { built.now ≡ named_of case.now }
+    requires keeps { Keeps F.pre F.post rule.now }
+    requires ranked { AreRanked (rule_view rule.now) (start_of case.now) }
+    ensures answer { let better = before (rule_view rule.now) in
+        IfSome (outcome_of result) (MarginComesTo case.now better budget) }
+    ensures spent { (b : _) → result ≡ Err (MarginFault.Spent b) → b ≡ budget }
+    ensures serves { let d = start_of case.now in GoesByVariable (rule_view rule.now) d
+        → 2 ^ (d.rows + d.cols) ≤ budget → (b : _) → result ≢ Err (MarginFault.Spent b) }
+    ensures shows { IfOk result (Shows case.now) }
+    ensures valid { IfOk result (IsValid case.now) }
+    ensures fits { IfOk result (Fits case.now) }
+    ensures refusing { IfOk result HasNoScenario }
+{
+    run_reaches();
+    valid_margins();
+    case.horizon();
+    let ran: Ran<W> = run_wide::<N, W, F>(alloc, built.programme(), rule, budget)?;
+    let cert = last_cert(alloc, case, built, &ran)?;
+    Ok(cert)
+}
 
 /// The certificate of a case, over given stores of 64 and of 128 bits: a calendar with the least worst loss, that loss
 /// and weights that bound every loss by it, or weights that refuse every calendar. It is read off the last dictionary
@@ -52,14 +82,9 @@ pub fn margin_over<'a, N: Widen<W>, W: Store<Frac128>, F: Fn(&Cand, &Cand) -> bo
     ensures fits { IfOk result (Fits case.now) }
     ensures refusing { IfOk result HasNoScenario }
 {
-    run_reaches();
-    valid_margins();
-    case.horizon();
     let flows = Flows::make(alloc, case)?;
     let built = build(alloc, case, &flows)?;
-    let ran: Ran<W> = run_wide::<N, W, F>(alloc, built.programme(), rule, budget)?;
-    let cert = last_cert(alloc, case, &built, &ran)?;
-    Ok(cert)
+    margin_of_programme_over::<N, W, F>(alloc, case, &built, rule, budget)
 }
 
 /// The certificate of a case, over dense tableaus: see [`margin_over`], whose errors and claims it has.
@@ -82,4 +107,29 @@ pub fn margin<'a, F: Fn(&Cand, &Cand) -> bool>(
     ensures refusing { IfOk result HasNoScenario }
 {
     margin_over::<Dense<Frac64>, Dense<Frac128>, F>(alloc, case, rule, budget)
+}
+
+/// The certificate of a case whose programme is built already, over dense tableaus: see [`margin_over`], whose errors
+/// and claims it has.
+pub fn margin_of_programme<'a, F: Fn(&Cand, &Cand) -> bool>(
+    alloc: Global,
+    case: &Case,
+    built: &Built,
+    rule: &Rule<'a, F>,
+    budget: u64,
+) -> Result<Cert, MarginFault>
+    requires built { built.now ≡ named_of case.now }
+    requires keeps { Keeps F.pre F.post rule.now }
+    requires ranked { AreRanked (rule_view rule.now) (start_of case.now) }
+    ensures answer { let better = before (rule_view rule.now) in
+        IfSome (outcome_of result) (MarginComesTo case.now better budget) }
+    ensures spent { (b : _) → result ≡ Err (MarginFault.Spent b) → b ≡ budget }
+    ensures serves { let d = start_of case.now in GoesByVariable (rule_view rule.now) d
+        → 2 ^ (d.rows + d.cols) ≤ budget → (b : _) → result ≢ Err (MarginFault.Spent b) }
+    ensures shows { IfOk result (Shows case.now) }
+    ensures valid { IfOk result (IsValid case.now) }
+    ensures fits { IfOk result (Fits case.now) }
+    ensures refusing { IfOk result HasNoScenario }
+{
+    margin_of_programme_over::<Dense<Frac64>, Dense<Frac128>, F>(alloc, case, built, rule, budget)
 }
