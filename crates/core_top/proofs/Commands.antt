@@ -1,5 +1,6 @@
 -- What is due to the words, a line for each command.
 use Rattle.std.proofs.Common.{◌≡◌, refl, sym, ◌∙◌, ℕ, ◌⊎◌, inl, inr, List, Option, Some, None}
+use Rattle.core_margin.specs.Laws.{OneMargin}
 use Rattle.core_top.specs.Commands.{Command, Margin, Check, IsDue, names_read, AllTold, NoneRose, no_fault}
 use Rattle.core_top.proofs.Statuses.{OwnStatus}
 use Rattle.core_top.proofs.AtFile.{Is}
@@ -22,8 +23,8 @@ due-own (Some (Check words)) told rose status text due =
     inr (check-own told rose words (names_read (Some (Check words))) (λ risen. inl risen) (λ risen. inr (inl risen)) status text due)
 
 -- one answer alone
-pub one-due : (command : Option Command) (told : List ℕ → Option (List ℕ)) → AllTold told (names_read command)
+pub one-due : OneMargin → (command : Option Command) (told : List ℕ → Option (List ℕ)) → AllTold told (names_read command)
     → (s s' : ℕ) (t t' : List ℕ) → IsDue command told no_fault s t → IsDue command told no_fault s' t' → Is s s' t t'
-one-due None told all s s' t t' p q = (p.0 ∙ sym q.0, p.1 ∙ sym q.1)
-one-due (Some (Margin words)) told all s s' t t' p q = margin-one told words all.0 s s' t t' p q
-one-due (Some (Check words)) told all s s' t t' p q = check-one told words all.0 all.1.0 s s' t t' p q
+one-due law None told all s s' t t' p q = (p.0 ∙ sym q.0, p.1 ∙ sym q.1)
+one-due law (Some (Margin words)) told all s s' t t' p q = margin-one law told words all.0 s s' t t' p q
+one-due law (Some (Check words)) told all s s' t t' p q = check-one told words all.0 all.1.0 s s' t t' p q

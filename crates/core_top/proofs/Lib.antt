@@ -1,13 +1,8 @@
-mod OneFuture
-mod OneFutureCalendar
-mod OneFutureWeights
-mod OneFutureShows
-mod FirstForm
-mod OneFutureFits
 mod Lines
 mod AtFile
 mod Statuses
 mod MarginDue
+mod HouseOrder
 mod CheckDue
 mod Commands
 mod Owing

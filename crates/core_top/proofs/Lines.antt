@@ -6,7 +6,7 @@ use Rattle.core_rows.proofs.Plain.{number_text-plain, row-plain-one, row-plain-m
 use Rattle.core_top.specs.declared.answers.File.{File}
 use Rattle.core_top.specs.declared.answers.File.TheVariants as files
 use Rattle.core_top.specs.declared.answers.Line.{Line}
-use Rattle.core_top.specs.declared.answers.Line.TheVariants.{Usage, Unread, Bad, AcceptedCloses, AcceptedCannot, Refused, Wide}
+use Rattle.core_top.specs.declared.answers.Line.TheVariants.{Usage, Unread, Bad, AcceptedCloses, AcceptedCannot, Refused, Wide, WidePivot, WideCommon, Spent}
 use Rattle.core_top.specs.Answers.{word_of, fields_of}
 
 -- the word of a file
@@ -29,3 +29,8 @@ line-plain AcceptedCloses = row-plain-more (codes "accepted") _ (word-plain (cod
 line-plain AcceptedCannot = row-plain-more (codes "accepted") _ (word-plain (codes "accepted") refl) (row-plain-one (codes "cannot") (word-plain (codes "cannot") refl))
 line-plain (Refused condition place) = with-numbers (codes "refused") condition place (word-plain (codes "refused") refl)
 line-plain (Wide condition place) = row-plain-more (codes "wide") _ (word-plain (codes "wide") refl) (with-numbers (codes "check") condition place (word-plain (codes "check") refl))
+line-plain (WidePivot k) =
+    row-plain-more (codes "wide") _ (word-plain (codes "wide") refl)
+    (row-plain-more (codes "pivot") _ (word-plain (codes "pivot") refl) (row-plain-one (number_text (pos k)) (number_text-plain (pos k))))
+line-plain WideCommon = row-plain-more (codes "wide") _ (word-plain (codes "wide") refl) (row-plain-one (codes "common") (word-plain (codes "common") refl))
+line-plain (Spent budget) = row-plain-more (codes "spent") _ (word-plain (codes "spent") refl) (row-plain-one (number_text (pos budget)) (number_text-plain (pos budget)))

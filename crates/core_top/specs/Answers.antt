@@ -11,7 +11,7 @@ use Rattle.core_cert.specs.declared.read.CertFault.TheVariants as cert_faults
 use Rattle.core_top.specs.declared.answers.File.{File}
 use Rattle.core_top.specs.declared.answers.File.TheVariants as files
 use Rattle.core_top.specs.declared.answers.Line.{Line}
-use Rattle.core_top.specs.declared.answers.Line.TheVariants.{Usage, Unread, Bad, AcceptedCloses, AcceptedCannot, Refused, Wide}
+use Rattle.core_top.specs.declared.answers.Line.TheVariants.{Usage, Unread, Bad, AcceptedCloses, AcceptedCannot, Refused, Wide, WidePivot, WideCommon, Spent}
 use Rattle.core_top.specs.declared.answers.Answer.{Answer}
 use Rattle.core_top.specs.declared.answers.Answer.TheVariants.{Said, Printed}
 use Rattle.core_top.specs.declared.answers.Due.{Due}
@@ -37,6 +37,9 @@ fields_of AcceptedCannot = codes "accepted" ∷ codes "cannot" ∷ []
 fields_of (Refused condition place) = codes "refused" ∷ decimal condition ∷ decimal place ∷ []
 fields_of (Wide condition place) =
     codes "wide" ∷ codes "check" ∷ decimal condition ∷ decimal place ∷ []
+fields_of (WidePivot k) = codes "wide" ∷ codes "pivot" ∷ decimal k ∷ []
+fields_of WideCommon = codes "wide" ∷ codes "common" ∷ []
+fields_of (Spent budget) = codes "spent" ∷ decimal budget ∷ []
 
 abbrev pub line_text : Line → List ℕ
 line_text line = row_text (fields_of line)
@@ -49,6 +52,9 @@ line_status AcceptedCloses = 0
 line_status AcceptedCannot = 0
 line_status (Refused condition place) = 10
 line_status (Wide condition place) = 4
+line_status (WidePivot k) = 4
+line_status WideCommon = 4
+line_status (Spent budget) = 5
 
 -- the status and the text of an answer
 abbrev pub answer_status : Answer → ℕ

@@ -1,8 +1,8 @@
 -- What the top call owes.
-use Rattle.std.specs.Prelude.{◌≡◌, ◌⊎◌, ℕ, List, Option, Some, None}
-use Rattle.core_io.specs.States.{KeepsBytes, KeepsCounts, KeepsCount, Writes}
-use Rattle.core_top.specs.Around.{Around, told, ShelfRose, SinkRose, Answered}
-use Rattle.core_top.specs.Margin.{MarginWords, MarginOwes}
+use Rattle.std.specs.Prelude.{◌≡◌, ◌↔◌, ◌⊎◌, ℕ, List, [], ◌∷◌, codes, Option, Some, None}
+use Rattle.core_io.specs.States.{ShelfState, KeepsBytes, KeepsCounts, KeepsCount, Writes}
+use Rattle.core_top.specs.Around.{Around, told, ShelfRose, SinkRose, Between, Answered}
+use Rattle.core_top.specs.Margin.{MarginWords, MarginOwes, MarginServes}
 use Rattle.core_top.specs.Check.{CheckWords, CheckOwes}
 use Rattle.core_top.specs.Commands.{Command, Margin, Check, command_of, names_read, IsDue, AllTold, NoneRose, OneRose, no_fault}
 
@@ -32,6 +32,8 @@ pub record HasCauses (a : Around) (command : Option Command) (status : ℕ) : Ty
 pub record Owes (a : Around) (words : List (List ℕ)) (status : ℕ) : Type 0 where
   pub margin : (asked : MarginWords) → command_of words ≡ Some (Margin asked)
       → MarginOwes a asked status
+  pub serves : (asked : MarginWords) → command_of words ≡ Some (Margin asked)
+      → MarginServes a asked status
   pub check : (asked : CheckWords) → command_of words ≡ Some (Check asked)
       → CheckOwes a asked status
   pub exact : IsExact a (command_of words) status
@@ -49,3 +51,14 @@ OneAnswerIsDue =
     → IsDue (command_of words) told no_fault status text
     → IsDue (command_of words) told no_fault status' text'
     → (status ≡ status') × (text ≡ text')
+
+-- the words of a call with a budget and a rule
+abbrev pub call_with : List ℕ → List ℕ → List ℕ → List (List ℕ)
+call_with case budget rule = codes "margin" ∷ case ∷ budget ∷ rule ∷ []
+
+-- To `margin CASE BUDGET CFBLPS` exactly that is due which is due to `margin CASE BUDGET 0`.
+abbrev pub HouseOrderIsDue : Type 0
+HouseOrderIsDue =
+    (case budget : List ℕ) (before after : ShelfState) (status : ℕ) (text : List ℕ)
+    → (Between before after (IsDue (command_of (call_with case budget (codes "CFBLPS")))) status text
+    ↔ Between before after (IsDue (command_of (call_with case budget (codes "0")))) status text)

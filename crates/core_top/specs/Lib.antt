@@ -1,4 +1,3 @@
-pub mod OneFuture
 pub mod Words
 pub mod Orders
 pub mod Answers

@@ -1,46 +1,85 @@
--- `margin CASE`: its words, what is due, and what its answers show.
-use Rattle.std.specs.Prelude.{◌≡◌, ℕ, ◌≤◌, List, [], ◌∷◌, length, codes, ℤ, true, false, ◌&&◌, if◌then◌else◌, Option, Some, None, Ok}
+-- `margin CASE`, `margin CASE BUDGET`, `margin CASE BUDGET RULE`: the words, what is due, and what the answers show.
+use Rattle.std.specs.Prelude.{◌≡◌, ◌≢◌, ◌↔◌, ◌⊎◌, ℕ, ◌^◌, ◌≤◌, List, [], ◌∷◌, length, codes, ℤ, pos, ◌&&◌, if◌then◌else◌, Option, Some, None, Ok}
+use Rattle.std.specs.Option.{option_map, option_zip}
 use Rattle.std.specs.Str.{bytes_eq}
+use Rattle.core_rows.specs.Fields.{whole}
 use Rattle.core_book.specs.View.{CaseView}
 use Rattle.core_model.specs.declared.cert.Calendar.{Calendar}
 use Rattle.core_model.specs.declared.cert.Weights.{Weights}
 use Rattle.core_model.specs.declared.cert.Cert.{Cert}
 use Rattle.core_model.specs.declared.cert.Cert.TheVariants.{Closes, Cannot}
+use Rattle.core_model.specs.Fits.{Fits}
 use Rattle.core_model.specs.Shows.{ShowsLeast, ShowsNone}
 use Rattle.core_model.specs.Check.{IsValid, verdict, Failed}
+use Rattle.core_lp.specs.Placing.{HasNoScenario}
+use Rattle.core_lp.specs.Ranks.{variable_count, as_numbered}
+use Rattle.core_margin.specs.Outcomes.{MarginOutcome, Certificate, Common, Pivot, Spent, MarginComesTo}
 use Rattle.core_cert.specs.Written.{cert_text}
 use Rattle.core_cert.specs.Stated.{cert_of_bytes}
 use Rattle.core_top.specs.declared.answers.File.TheVariants as files
-use Rattle.core_top.specs.declared.answers.Line.TheVariants.{Unread, Bad}
+use Rattle.core_top.specs.declared.answers.Line.TheVariants as lines
 use Rattle.core_top.specs.declared.margin.Words.{Words}
 use Rattle.core_top.specs.Words.{is_name}
-use Rattle.core_top.specs.OneFuture.{is_one_future, one_future_cert}
+use Rattle.core_top.specs.Orders.{RuleWord, LeastVariable, Kinds, rule_of, order_told, preference}
 use Rattle.core_top.specs.Answers.{line_text, cert_status}
 use Rattle.core_top.specs.Files.{file_limit, HasCase, AtCase}
 use Rattle.core_top.specs.Around.{Around, told, ShelfRose, Answered}
 
--- the name of the case
+-- the name of the case, the greatest count of pivots, and the rule
 pub record MarginWords : Type 0 where
   pub case : List ℕ
+  pub budget : ℕ
+  pub rule : RuleWord
+
+-- a budget is a whole number that is not negative
+abbrev pub budget_from : Option ℤ → Option ℕ
+budget_from (Some (pos n)) = Some n
+budget_from _ = None
+
+abbrev pub budget_of : List ℕ → Option ℕ
+budget_of word = budget_from (whole word)
+
+-- the budget and the rule of the words after the name: 100000 pivots and the least variable where they are not said
+abbrev pub limits_of : List (List ℕ) → Option (ℕ × RuleWord)
+limits_of [] = Some (100000, LeastVariable)
+limits_of (budget ∷ []) = option_map (λ b. (b, LeastVariable)) (budget_of budget)
+limits_of (budget ∷ rule ∷ []) = option_zip (budget_of budget) (rule_of rule)
+limits_of _ = None
+
+abbrev pub words_with : List ℕ → ℕ × RuleWord → MarginWords
+words_with case limits = record { case = case; budget = limits.0; rule = limits.1 }
 
 abbrev pub margin_words : List (List ℕ) → Option MarginWords
-margin_words (verb ∷ case ∷ []) =
-    if bytes_eq verb (codes "margin") && is_name case then Some (record { case = case }) else None
+margin_words (verb ∷ case ∷ rest) =
+    if bytes_eq verb (codes "margin") && is_name case
+    then option_map (words_with case) (limits_of rest) else None
 margin_words _ = None
 
 -- the words that the program makes of them
 abbrev pub margin_told : Words → MarginWords
-margin_told words = record { case = words.case.now }
+margin_told words = record {
+  case = words.case.now;
+  budget = words.budget;
+  rule = order_told words.order;
+}
 
--- What is due to a case: the certificate of a book of one future; any other case is answered by record 0 and code 99.
-pub data MarginOf (c : CaseView) : ℕ → List ℕ → Type 0 where
-  certified : is_one_future c ≡ true
-      → MarginOf c (cert_status (one_future_cert c)) (cert_text c (one_future_cert c))
-  not_yet : is_one_future c ≡ false → MarginOf c 3 (line_text (Bad files.Case 0 99))
+-- a case comes to this under the rule and with the budget of the words
+abbrev pub Comes : MarginWords → CaseView → MarginOutcome → Type 0
+Comes words c outcome = MarginComesTo c (preference c words.rule) words.budget outcome
+
+-- What is due to a case: the certificate that it comes to, whose numbers 128 bits keep; or the pivot, or the common
+-- denominators of the certificate, that they do not; or that the budget is spent.
+pub data MarginOf (words : MarginWords) (c : CaseView) : ℕ → List ℕ → Type 0 where
+  certified : (x : Cert) → Comes words c (Certificate x) → Fits c x → HasNoScenario x
+      → MarginOf words c (cert_status x) (cert_text c x)
+  wide_pivot : (k : ℕ) → Comes words c (Pivot k)
+      → MarginOf words c 4 (line_text (lines.WidePivot k))
+  wide_common : Comes words c Common → MarginOf words c 4 (line_text lines.WideCommon)
+  spent : Comes words c Spent → MarginOf words c 5 (line_text (lines.Spent words.budget))
 
 abbrev pub MarginDue : MarginWords → (List ℕ → Option (List ℕ)) → (List ℕ → Type 0)
     → ℕ → List ℕ → Type 0
-MarginDue words told rose = AtCase told rose words.case MarginOf
+MarginDue words told rose = AtCase told rose words.case (MarginOf words)
 
 -- The text of a certificate is no longer than a file may be and is read as this certificate, and every condition of the
 -- check holds. So `check` of the case and this text answers neither 9 nor 10.
@@ -50,9 +89,10 @@ pub record IsReadBack (c : CaseView) (x : Cert) : Type 0 where
   pub valid : IsValid c x
   pub never_refused : (condition place : ℕ) → verdict c x ≡ Failed condition place → ⊥
 
--- What an answer shows of a book of one future that is read: the text is a certificate of an admissible calendar whose
--- worst loss no admissible calendar undercuts, with its loss and weights that show it; or of weights showing that no
--- calendar is admissible; or the count of the case's name rose.
+-- What an answer shows of a case that is read: the text is a certificate of an admissible calendar whose worst loss no
+-- admissible calendar undercuts, with its loss and weights that show it; or of weights showing that no calendar is
+-- admissible; or 128 bits do not keep a pivot or the certificate; or the run has not ended after the budget's pivots; or
+-- the count of the case's name rose.
 pub data MarginShows (rose : List ℕ → Type 0) (words : MarginWords) (c : CaseView)
     : ℕ → List ℕ → Type 0 where
   least : (calendar : Calendar) (loss : ℤ) (weights : Weights) → ShowsLeast c calendar loss weights
@@ -60,9 +100,29 @@ pub data MarginShows (rose : List ℕ → Type 0) (words : MarginWords) (c : Cas
       → MarginShows rose words c 0 (cert_text c (Closes calendar loss weights))
   none : (weights : Weights) → ShowsNone c weights → IsReadBack c (Cannot weights)
       → MarginShows rose words c 1 (cert_text c (Cannot weights))
-  case_unread : rose words.case → MarginShows rose words c 6 (line_text (Unread files.Case))
+  pivot_leaves : (k : ℕ) → Comes words c (Pivot k)
+      → MarginShows rose words c 4 (line_text (lines.WidePivot k))
+  cert_leaves : Comes words c Common → MarginShows rose words c 4 (line_text lines.WideCommon)
+  not_ended : Comes words c Spent
+      → MarginShows rose words c 5 (line_text (lines.Spent words.budget))
+  case_unread : rose words.case → MarginShows rose words c 6 (line_text (lines.Unread files.Case))
 
 -- The main sentence.
 abbrev pub MarginOwes : Around → MarginWords → ℕ → Type 0
 MarginOwes a words status = (c : CaseView) → HasCase (told a) words.case c
-    → is_one_future c ≡ true → Answered a (MarginShows (ShelfRose a) words c) status
+    → Answered a (MarginShows (ShelfRose a) words c) status
+
+-- the rule of the least variable, also as the order of the kinds in which the variables are numbered
+abbrev pub GoesByNumber : RuleWord → Type 0
+GoesByNumber rule = (rule ≡ LeastVariable) ⊎ (rule ≡ Kinds as_numbered)
+
+-- Under it a budget of as many pivots as there are sets of the programme's variables is never spent.
+abbrev pub IsNeverSpent : Type 0
+IsNeverSpent =
+    (c : CaseView) (words : MarginWords) → GoesByNumber words.rule
+    → 2 ^ variable_count c ≤ words.budget → ¬ (Comes words c Spent)
+
+-- So with such a budget the answer is never 5.
+abbrev pub MarginServes : Around → MarginWords → ℕ → Type 0
+MarginServes a words status = (c : CaseView) → HasCase (told a) words.case c
+    → GoesByNumber words.rule → 2 ^ variable_count c ≤ words.budget → status ≢ 5

@@ -1,5 +1,5 @@
 // The answers of a call, and the text of each.
-ghost use Rattle.std.specs.Prelude.{◌≡◌, IfOk};
+ghost use Rattle.std.specs.Prelude.{◌≡◌, ◌∷◌, [], ◌++◌, decimal, IfOk};
 ghost use Rattle.core_top.specs.Answers.{answer_status, answer_text, cert_status, fields_of, line_status, line_text, word_of, Says};
 
 use core_model::Cert;
@@ -42,6 +42,12 @@ pub(crate) enum Line {
     Refused { condition: u8, place: u32 },
     /// 4 `wide,check,CONDITION,PLACE`.
     Wide { condition: u8, place: u32 },
+    /// 4 `wide,pivot,PIVOT`.
+    WidePivot { pivot: u64 },
+    /// 4 `wide,common`.
+    WideCommon,
+    /// 5 `spent,BUDGET`.
+    Spent { budget: u64 },
 }
 
 impl Line {
@@ -55,7 +61,8 @@ impl Line {
                 file: File::Case,
                 ..
             } => 3,
-            Line::Wide { .. } => 4,
+            Line::Wide { .. } | Line::WidePivot { .. } | Line::WideCommon => 4,
+            Line::Spent { .. } => 5,
             Line::Unread(_) => 6,
             Line::Bad {
                 file: File::Cert,
@@ -68,42 +75,70 @@ impl Line {
     fn fields(self, alloc: Global) -> Result<Fields, AllocError>
         ensures { IfOk result (λ fields. fields ≡ fields_of self) }
     {
-        let mut fields = Fields::make(alloc);
         match self {
-            Line::Usage => fields.push(b"usage")?,
+            Line::Usage => one(alloc, b"usage"),
             Line::Unread(file) => {
-                fields.push(b"fault")?;
-                fields.push(b"read")?;
+                let mut fields = pair(alloc, b"fault", b"read")?;
                 fields.push(file.word())?;
+                Ok(fields)
             }
             Line::Bad { file, row, code } => {
-                fields.push(b"bad")?;
-                fields.push(file.word())?;
-                fields.push_number(i128::from(row))?;
-                fields.push_number(i128::from(code))?;
+                let fields = pair(alloc, b"bad", file.word())?;
+                with_numbers(fields, row, u32::from(code))
             }
-            Line::AcceptedCloses => {
-                fields.push(b"accepted")?;
-                fields.push(b"closes")?;
-            }
-            Line::AcceptedCannot => {
-                fields.push(b"accepted")?;
-                fields.push(b"cannot")?;
-            }
+            Line::AcceptedCloses => pair(alloc, b"accepted", b"closes"),
+            Line::AcceptedCannot => pair(alloc, b"accepted", b"cannot"),
             Line::Refused { condition, place } => {
-                fields.push(b"refused")?;
-                fields.push_number(i128::from(condition))?;
-                fields.push_number(i128::from(place))?;
+                let fields = one(alloc, b"refused")?;
+                with_numbers(fields, u32::from(condition), place)
             }
             Line::Wide { condition, place } => {
-                fields.push(b"wide")?;
-                fields.push(b"check")?;
-                fields.push_number(i128::from(condition))?;
-                fields.push_number(i128::from(place))?;
+                let fields = pair(alloc, b"wide", b"check")?;
+                with_numbers(fields, u32::from(condition), place)
             }
+            Line::WidePivot { pivot } => with_number(pair(alloc, b"wide", b"pivot")?, pivot),
+            Line::WideCommon => pair(alloc, b"wide", b"common"),
+            Line::Spent { budget } => with_number(one(alloc, b"spent")?, budget),
         }
-        Ok(fields)
     }
+}
+
+/// A record of one word.
+fn one(alloc: Global, word: &[u8]) -> Result<Fields, AllocError>
+    ensures { IfOk result (λ fields. fields ≡ word.now ∷ []) }
+{
+    let mut fields = Fields::make(alloc);
+    fields.push(word)?;
+    Ok(fields)
+}
+
+/// A record of two words.
+fn pair(alloc: Global, first: &[u8], second: &[u8]) -> Result<Fields, AllocError>
+    ensures { IfOk result (λ fields. fields ≡ first.now ∷ second.now ∷ []) }
+{
+    let mut fields = Fields::make(alloc);
+    fields.push(first)?;
+    fields.push(second)?;
+    Ok(fields)
+}
+
+/// A record, and after it a number.
+fn with_number(fields: Fields, number: u64) -> Result<Fields, AllocError>
+    ensures { IfOk result (λ all. all ≡ fields ++ (decimal number ∷ [])) }
+{
+    let mut fields = fields;
+    fields.push_number(i128::from(number))?;
+    Ok(fields)
+}
+
+/// A record, and after it two numbers.
+fn with_numbers(fields: Fields, first: u32, second: u32) -> Result<Fields, AllocError>
+    ensures { IfOk result (λ all. all ≡ fields ++ (decimal first ∷ decimal second ∷ [])) }
+{
+    let mut fields = fields;
+    fields.push_number(i128::from(first))?;
+    fields.push_number(i128::from(second))?;
+    Ok(fields)
 }
 
 /// What a call answers: a line, or a text that its command has made.

@@ -1,26 +1,56 @@
-// `margin CASE`: the certificate of the margin of a case.
-ghost use Rattle.std.specs.Prelude.{◌≡◌, true, None, Some, IfNone, IfSome};
+// `margin CASE`, `margin CASE BUDGET`, `margin CASE BUDGET RULE`: the certificate of the margin of a case.
+ghost use Rattle.std.specs.Prelude.{◌≡◌, None, Some, IfNone, IfSome};
 ghost use Rattle.core_io.specs.States.{KeepsBytes, KeepsCounts};
-ghost use Rattle.core_book.specs.Kept.{IsCase};
+ghost use Rattle.core_margin.specs.Laws.{MarginIsValid};
 ghost use Rattle.core_top.specs.Words.{words_of};
-ghost use Rattle.core_top.specs.OneFuture.{is_one_future};
+ghost use Rattle.core_top.specs.Orders.{order_told};
 ghost use Rattle.core_top.specs.Answers.{ComesTo};
 ghost use Rattle.core_top.specs.Around.{Between};
-ghost use Rattle.core_top.specs.Margin.{margin_words, margin_told, MarginDue, MarginOf};
+ghost use Rattle.core_top.specs.Margin.{budget_of, limits_of, margin_words, margin_told, MarginDue, MarginOf, IsNeverSpent};
 
-use crate::answers::{Answer, File, Line, cert_status};
+use crate::answers::{Answer, Line, cert_status};
 use crate::files::case_under;
-use crate::one_future::{is_one_future, one_future_cert};
+use crate::orders::{Order, margin_by, order_of};
 use crate::stop::Stop;
 use core_case::Case;
 use core_cert::write_cert;
 use core_io::Shelf;
+use core_margin::{MarginFault, order_laws, run_reaches, valid_margins};
+use core_rows::whole;
+use core_run::least_variable_laws;
 use std::alloc::Global;
 
-/// The name of the case, which is not empty.
+/// The greatest count of pivots where the words say none.
+const BUDGET: u64 = 100_000;
+
+/// The name of the case, which is not empty, the greatest count of pivots and the rule.
 #[derive(Clone, Copy, Debug)]
 pub(crate) struct Words<'a> {
     case: &'a str,
+    budget: u64,
+    order: Order,
+}
+
+/// The budget that a word says: a whole number, not negative and at most 2^63 - 1.
+fn budget_of(word: &str) -> Option<u64>
+    ensures { result ≡ budget_of word.now }
+{
+    let number = whole(word.as_bytes())?;
+    u64::try_from(number).ok()
+}
+
+/// The budget and the rule that the words after the case's name say.
+fn limits_of(words: &[String]) -> Option<(u64, Order)>
+    ensures none { IfNone result (limits_of (words_of words.now) ≡ None) }
+    ensures some { IfSome result (λ limits. limits_of (words_of words.now)
+        ≡ Some (limits.0, order_told limits.1)) }
+{
+    match words {
+        [] => Some((BUDGET, Order::LeastVariable)),
+        [budget] => Some((budget_of(budget.as_str())?, Order::LeastVariable)),
+        [budget, rule] => Some((budget_of(budget.as_str())?, order_of(rule.as_str())?)),
+        _ => None,
+    }
 }
 
 /// The words as those of `margin`, none where they are not.
@@ -30,40 +60,37 @@ pub(crate) fn words_of<'a>(words: &'a [String]) -> Option<Words<'a>>
         ≡ Some (margin_told asked)) }
 {
     match words {
-        [verb, case] if verb.as_str() == "margin" && !case.is_empty() => Some(Words {
-            case: case.as_str(),
-        }),
+        [verb, case, rest @ ..] if verb.as_str() == "margin" && !case.is_empty() => {
+            let (budget, order) = limits_of(rest)?;
+            Some(Words {
+                case: case.as_str(),
+                budget,
+                order,
+            })
+        }
         _ => None,
     }
 }
 
-/// The margin of a book of one future: its certificate.
-fn one_future_margin(alloc: Global, case: &Case) -> Result<Answer, Stop>
-    requires kept { IsCase case.now }
-    requires one { is_one_future case.now ≡ true }
-    ensures { ComesTo (MarginOf case.now) result }
+/// The answer to a case: the text of its certificate, or why it has none.
+fn margin_of(alloc: Global, case: &Case, asked: &Words) -> Result<Answer, Stop>
+    ensures { ComesTo (MarginOf (margin_told asked.now) case.now) result }
 {
-    let cert = one_future_cert(alloc, case)?;
-    let text = write_cert(alloc, case, &cert)?;
-    Ok(Answer::Printed {
-        status: cert_status(&cert),
-        text,
-    })
-}
-
-/// The margin of a case: of a book of one future its certificate, and for any other case record 0 and code 99.
-fn margin_of(alloc: Global, case: &Case) -> Result<Answer, Stop>
-    ensures { ComesTo (MarginOf case.now) result }
-{
-    let _kept = case.horizon();
-    if is_one_future(case) {
-        one_future_margin(alloc, case)
-    } else {
-        Ok(Answer::Said(Line::Bad {
-            file: File::Case,
-            row: 0,
-            code: 99,
-        }))
+    match margin_by(alloc, case, asked.order, asked.budget) {
+        Ok(cert) => {
+            let text = write_cert(alloc, case, &cert)?;
+            Ok(Answer::Printed {
+                status: cert_status(&cert),
+                text,
+            })
+        }
+        Err(MarginFault::Pivot { pivot }) => Ok(Answer::Said(Line::WidePivot { pivot })),
+        Err(MarginFault::Common) => Ok(Answer::Said(Line::WideCommon)),
+        Err(MarginFault::Spent { .. }) => {
+            let budget = asked.budget;
+            Ok(Answer::Said(Line::Spent { budget }))
+        }
+        Err(MarginFault::NoMemory) => Err(Stop::NoMemory),
     }
 }
 
@@ -75,5 +102,17 @@ pub(crate) fn answer<S: Shelf>(alloc: Global, shelf: &mut S, asked: &Words) -> R
     ensures counts { KeepsCounts (S.state shelf.old) (S.state shelf.new) }
 {
     let case = case_under(alloc, shelf, asked.case)?;
-    margin_of(alloc, &case)
+    margin_of(alloc, &case, asked)
+}
+
+/// A certificate that a case comes to shows what it states and holds at every place of the check; and a budget of as
+/// many pivots as there are sets of the programme's variables is never spent where the least variable leaves.
+pub(crate) fn margin_laws()
+    ensures valid { MarginIsValid }
+    ensures never_spent { IsNeverSpent }
+{
+    valid_margins();
+    run_reaches();
+    least_variable_laws();
+    order_laws();
 }

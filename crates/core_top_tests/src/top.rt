@@ -6,11 +6,18 @@ use std::alloc::{AllocError, Global};
 use std::process::Abort;
 use std::test::Fail;
 
-const OTHER_WORDS: [&[&str]; 10] = [
+const OTHER_WORDS: [&[&str]; 17] = [
     &[],
     &["margin"],
     &["margin", ""],
+    &["margin", "C", ""],
     &["margin", "C", "-1"],
+    &["margin", "C", "01"],
+    &["margin", "C", "9223372036854775808"],
+    &["margin", "C", "1", "3"],
+    &["margin", "C", "1", "CFBLPP"],
+    &["margin", "C", "1", "0", "0"],
+    &["margin", "", "1", "0"],
     &["Margin", "C"],
     &["check", "C"],
     &["check", "", "C"],
@@ -170,7 +177,6 @@ fn names_the_first_fault_of_a_file_that_is_no_case(rt: HostRuntime) -> Result<()
     let cut = SMALL.replace(alloc, "end\n", "")?;
     let longer = SMALL.replace(alloc, "end\n", "end\nend\n")?;
     let fewer_prices = SMALL.replace(alloc, "100,90,90", "100,90")?;
-    let with_cash = SMALL.replace(alloc, "end\n", "cash,1,5\nend\n")?;
     let long = vec![in alloc; b'x'; 4_194_305]?;
     for (case, want) in [
         (b"".as_slice(), "bad,case,1,1\n"),
@@ -178,7 +184,6 @@ fn names_the_first_fault_of_a_file_that_is_no_case(rt: HostRuntime) -> Result<()
         (cut.as_bytes(), "bad,case,9,17\n"),
         (longer.as_bytes(), "bad,case,10,16\n"),
         (fewer_prices.as_bytes(), "bad,case,7,5\n"),
-        (with_cash.as_bytes(), "bad,case,0,99\n"),
         (&long[1..], "bad,case,1,1\n"),
         (long.as_slice(), "bad,case,0,0\n"),
     ] {
