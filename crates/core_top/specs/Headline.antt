@@ -60,5 +60,6 @@ call_with case budget rule = codes "margin" ∷ case ∷ budget ∷ rule ∷ []
 abbrev pub HouseOrderIsDue : Type 0
 HouseOrderIsDue =
     (case budget : List ℕ) (before after : ShelfState) (status : ℕ) (text : List ℕ)
-    → (Between before after (IsDue (command_of (call_with case budget (codes "CFBLPS")))) status text
+    → (Between before after (IsDue (command_of (call_with case budget (codes "CFBLPS"))))
+    status text
     ↔ Between before after (IsDue (command_of (call_with case budget (codes "0")))) status text)

@@ -91,8 +91,8 @@ pub record IsReadBack (c : CaseView) (x : Cert) : Type 0 where
 
 -- What an answer shows of a case that is read: the text is a certificate of an admissible calendar whose worst loss no
 -- admissible calendar undercuts, with its loss and weights that show it; or of weights showing that no calendar is
--- admissible; or 128 bits do not keep a pivot or the certificate; or the run has not ended after the budget's pivots; or
--- the count of the case's name rose.
+-- admissible; or 128 bits do not keep a pivot or the certificate; or the run has not ended after the budget's pivots;
+-- or the count of the case's name rose.
 pub data MarginShows (rose : List ℕ → Type 0) (words : MarginWords) (c : CaseView)
     : ℕ → List ℕ → Type 0 where
   least : (calendar : Calendar) (loss : ℤ) (weights : Weights) → ShowsLeast c calendar loss weights

@@ -56,12 +56,12 @@ fn due<S: Shelf>(alloc: Global, words: &[String], shelf: &mut S) -> Result<Due, 
 ///
 /// The words are those after the program's name. CASE and CERT are the names of files on the shelf, and may be one name.
 ///
-/// - `margin CASE`, `margin CASE BUDGET` and `margin CASE BUDGET RULE` print the certificate of the case's margin: 0 with
-///   a calendar, 1 with weights that refuse. It comes of a run of at most BUDGET pivots, 0 to 2^63 - 1, and 100000 where
-///   the word is not there; else 5 with `spent,BUDGET`. RULE says which of the rows that may leave does: `0` that of the
-///   least variable, as where the word is not there, `1` that of the least value, `2` the last, or the letters C, F, B, L,
-///   P and S in the order of their kinds. 4 with `wide,pivot,PIVOT` where that pivot, counted from 1, leaves 128 bits,
-///   and with `wide,common` where a number of the certificate does.
+/// - `margin CASE`, `margin CASE BUDGET` and `margin CASE BUDGET RULE` print the certificate of the case's margin: 0
+///   with a calendar, 1 with weights that refuse. It comes of a run of at most BUDGET pivots, 0 to 2^63 - 1, or
+///   100000 where no BUDGET is said; where they do not end it, 5 with `spent,BUDGET`. RULE says which of the rows
+///   that may leave does: `0` that of the least variable, as where no RULE is said, `1` that of the least value, `2`
+///   the last, or the letters C, F, B, L, P and S in the order of their kinds. 4 with `wide,pivot,PIVOT` where that
+///   pivot, counted from 1, leaves 128 bits, and with `wide,common` where a number of the certificate does.
 /// - `check CASE CERT` judges the certificate for any case: 0 with `accepted,closes` or `accepted,cannot`, 10 with
 ///   `refused,CONDITION,PLACE` where it does not hold, 4 with `wide,check,CONDITION,PLACE` where a number of the check
 ///   leaves 128 bits.
@@ -70,13 +70,14 @@ fn due<S: Shelf>(alloc: Global, words: &[String], shelf: &mut S) -> Result<Due, 
 /// then the work is done. The output is built first and then written to the sink (7). Where memory runs out the answer
 /// is 8, and the sink is as it was.
 ///
-/// What it owes is a record with a field for each sentence. `margin`: for every case that is read, under every rule, an
-/// admissible calendar whose worst loss no admissible calendar undercuts, with its loss and weights that show it, or
-/// weights showing that no calendar is admissible; the text is read as this certificate, and no place of its check
-/// fails; or why there is none. `serves`: under the rule of the least variable (Bland 1977) a budget of at least 2 to the
-/// power of the programme's rows and columns together is never answered with 5. `check`: for every case, what an accepted certificate states is so, whoever made it. `exact`: each answer is
-/// one that is due. `complete`: where nothing failed it is due by the words and the bytes alone. `causes`: what a status
-/// says by itself. `kept`, `shelf_counts`, `sink_count`: no bytes on the shelf change, and no count falls.
+/// What it owes is a record with a field for each sentence. `margin`: for every case that is read, under every rule,
+/// an admissible calendar whose worst loss no admissible calendar undercuts, with its loss and weights that show it,
+/// or weights showing that no calendar is admissible; the text is read as this certificate, and no place of its check
+/// fails; or why there is none. `serves`: under the rule of the least variable (Bland 1977) a budget of at least 2 to
+/// the power of the programme's rows and columns together is never answered with 5. `check`: for every case, what an
+/// accepted certificate states is so, whoever made it. `exact`: each answer is one that is due. `complete`: where
+/// nothing failed it is due by the words and the bytes alone. `causes`: what a status says by itself. `kept`,
+/// `shelf_counts`, `sink_count`: no bytes on the shelf change, and no count falls.
 pub fn core_call<S: Shelf, K: Sink>(
     alloc: Global,
     words: &Vec<String>,

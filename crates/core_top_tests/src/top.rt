@@ -208,6 +208,34 @@ fn tells_the_usage_for_other_words(rt: HostRuntime) -> Result<(), Fail> {
     Ok(())
 }
 
+/// Words after the case's name, and the status and the answer of each.
+const LIMITED: [(&[&str], u8, &str); 7] = [
+    (&["margin", "C", "0"], 5, "spent,0\n"),
+    (&["margin", "C", "0", "CFBLPS"], 5, "spent,0\n"),
+    (&["margin", "C", "100000"], 0, SMALL_CLOSING),
+    (
+        &["margin", "C", "9223372036854775807", "0"],
+        0,
+        SMALL_CLOSING,
+    ),
+    (&["margin", "C", "100", "1"], 0, SMALL_CLOSING),
+    (&["margin", "C", "100", "2"], 0, SMALL_CLOSING),
+    (&["margin", "C", "100", "SPLBFC"], 0, SMALL_CLOSING),
+];
+
+#[test]
+fn takes_a_budget_and_a_rule(rt: HostRuntime) -> Result<(), Fail> {
+    let alloc = rt.alloc();
+    let mut shelf = MemShelf::make(alloc);
+    shelf.put("C", SMALL.as_bytes())?;
+    for (words, status, want) in LIMITED {
+        let sink = MemSink::make(alloc, 1000, 1000)?;
+        let said = answer(alloc, words, &mut shelf, sink)?;
+        assert_eq!(rt; (said.0, said.1.as_str()), (status, want), "at {words:?}");
+    }
+    Ok(())
+}
+
 #[test]
 fn answers_reads_and_writes_that_fail(rt: HostRuntime) -> Result<(), Fail> {
     let alloc = rt.alloc();
