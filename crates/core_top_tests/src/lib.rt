@@ -11,4 +11,6 @@ mod check;
 #[cfg(test)]
 mod replay;
 #[cfg(test)]
+mod report;
+#[cfg(test)]
 mod top;

@@ -1,0 +1,210 @@
+// What a calendar closes, by line, by limit and by pool.
+ghost use Rattle.std.specs.Prelude.{◌≡◌, ◌≤ℤ◌, ◌<◌, ◌++◌, pos, length, OnOk, IfOk};
+ghost use Rattle.core_rows.specs.Written.{rows_text};
+ghost use Rattle.core_book.specs.Kept.{IsCase};
+ghost use Rattle.core_model.specs.Closing.{IsClosingDay, IsTierNumber, line_count};
+ghost use Rattle.core_model.specs.Layout.{plan_of};
+ghost use Rattle.core_model.specs.Fits.{CalendarFits};
+ghost use Rattle.core_report.specs.Report.{AreDates};
+ghost use Rattle.core_report.specs.Records.{close_record, close_records, limit_fields, limit_record, limit_records, listed, pool_fields, pool_record, pool_records};
+ghost use Rattle.core_report.specs.Stays.{ClosingsStay};
+
+use crate::cells::{day_cell, tier_cell};
+use crate::dates::Dates;
+use crate::row::{Row, put_some};
+use crate::sums::{pool_closed, tier_closed};
+use core_book::Case;
+use core_model::{Calendar, ClosingCell, DayCell};
+use std::alloc::{AllocError, Global};
+
+/// What is closed of a line on a day in a tier, none where it is 0.
+fn close_row(
+    alloc: Global,
+    case: &Case,
+    dates: &Dates,
+    calendar: &Calendar,
+    cell: ClosingCell,
+) -> Result<Option<Row>, AllocError>
+    requires dates { AreDates case.now dates.now }
+    requires fits { CalendarFits case.now calendar.now }
+    requires den { pos 1 ≤ℤ calendar.now.den }
+    requires line { cell.row < line_count case.now }
+    requires day { IsClosingDay case.now cell.day }
+    requires tier { IsTierNumber case.now cell.tier }
+    ensures { IfOk result (λ row. listed row
+        ≡ close_record case.now dates.now (plan_of case.now calendar.now) cell.day cell.row cell.tier) }
+{
+    let amount = calendar.amount(case, cell.row, cell.day, cell.tier);
+    if amount == 0 {
+        return Ok(None);
+    }
+    let mut row = Row::start(alloc, b"close")?;
+    row.push_date(dates, cell.day)?;
+    row.push_line(case, cell.row)?;
+    row.push_tier(case, cell.tier)?;
+    row.push_ratio(amount, calendar.den)?;
+    Ok(Some(row))
+}
+
+/// Prints what is closed, by day, then by line, then by tier.
+pub(crate) fn put_closes(
+    alloc: Global,
+    out: &mut Vec<u8>,
+    case: &Case,
+    dates: &Dates,
+    calendar: &Calendar,
+) -> Result<(), AllocError>
+    requires dates { AreDates case.now dates.now }
+    requires fits { CalendarFits case.now calendar.now }
+    requires den { pos 1 ≤ℤ calendar.now.den }
+    ensures { OnOk result (out.new.items ≡ out.old.items
+        ++ rows_text (close_records case.now dates.now (plan_of case.now calendar.now))) }
+{
+    let lines = case.lines();
+    let count = usize::from(case.horizon()) * (lines * usize::from(case.tiers()));
+    for place in 0..count {
+        let cell = tier_cell(case, lines, place);
+        put_some(alloc, out, close_row(alloc, case, dates, calendar, cell)?)?;
+    }
+    Ok(())
+}
+
+/// A record of a limit that begins with its day, its instrument and its tier.
+pub(crate) fn limit_start(
+    alloc: Global,
+    case: &Case,
+    dates: &Dates,
+    cell: ClosingCell,
+) -> Result<Row, AllocError>
+    requires dates { AreDates case.now dates.now }
+    requires instrument { cell.row < length case.now.instruments }
+    requires day { IsClosingDay case.now cell.day }
+    ensures { IfOk result (λ row. row ≡ limit_fields case.now dates.now cell.day cell.row cell.tier) }
+{
+    let mut row = Row::start(alloc, b"limit")?;
+    row.push_date(dates, cell.day)?;
+    row.push_name(case.instrument(cell.row).name)?;
+    row.push_tier(case, cell.tier)?;
+    Ok(row)
+}
+
+/// What is closed of an instrument on a day in a tier, and its limit; none where it is 0 or the day is the expiry.
+fn limit_row(
+    alloc: Global,
+    case: &Case,
+    dates: &Dates,
+    calendar: &Calendar,
+    cell: ClosingCell,
+) -> Result<Option<Row>, AllocError>
+    requires dates { AreDates case.now dates.now }
+    requires fits { CalendarFits case.now calendar.now }
+    requires stays { ClosingsStay case.now (plan_of case.now calendar.now) }
+    requires instrument { cell.row < length case.now.instruments }
+    requires day { IsClosingDay case.now cell.day }
+    requires tier { IsTierNumber case.now cell.tier }
+    ensures { IfOk result (λ row. listed row
+        ≡ limit_record case.now dates.now (plan_of case.now calendar.now) cell.day cell.row cell.tier) }
+{
+    if !case.counts(cell.row, cell.day) {
+        return Ok(None);
+    }
+    let closed = tier_closed(case, calendar, cell);
+    if closed == 0 {
+        return Ok(None);
+    }
+    let mut row = limit_start(alloc, case, dates, cell)?;
+    row.push_ratio(closed, calendar.den)?;
+    row.push_number(i128::from(case.limit(cell.row, cell.day, cell.tier)))?;
+    Ok(Some(row))
+}
+
+/// Prints what is closed of the instruments and their limits, by day, then by instrument, then by tier.
+pub(crate) fn put_limits(
+    alloc: Global,
+    out: &mut Vec<u8>,
+    case: &Case,
+    dates: &Dates,
+    calendar: &Calendar,
+) -> Result<(), AllocError>
+    requires dates { AreDates case.now dates.now }
+    requires fits { CalendarFits case.now calendar.now }
+    requires stays { ClosingsStay case.now (plan_of case.now calendar.now) }
+    ensures { OnOk result (out.new.items ≡ out.old.items
+        ++ rows_text (limit_records case.now dates.now (plan_of case.now calendar.now))) }
+{
+    let instruments = case.instruments();
+    let count = usize::from(case.horizon()) * (instruments * usize::from(case.tiers()));
+    for place in 0..count {
+        let cell = tier_cell(case, instruments, place);
+        put_some(alloc, out, limit_row(alloc, case, dates, calendar, cell)?)?;
+    }
+    Ok(())
+}
+
+/// A record of a pool that begins with its day and its name.
+pub(crate) fn pool_start(
+    alloc: Global,
+    case: &Case,
+    dates: &Dates,
+    cell: DayCell,
+) -> Result<Row, AllocError>
+    requires dates { AreDates case.now dates.now }
+    requires pool { cell.row < length case.now.pools }
+    requires day { IsClosingDay case.now cell.day }
+    ensures { IfOk result (λ row. row ≡ pool_fields case.now dates.now cell.day cell.row) }
+{
+    let mut row = Row::start(alloc, b"pool")?;
+    row.push_date(dates, cell.day)?;
+    row.push_name(case.pool(cell.row).name)?;
+    Ok(row)
+}
+
+/// The weighted closings of a pool on a day, and its cap; none where they are 0.
+fn pool_row(
+    alloc: Global,
+    case: &Case,
+    dates: &Dates,
+    calendar: &Calendar,
+    cell: DayCell,
+) -> Result<Option<Row>, AllocError>
+    requires kept { IsCase case.now }
+    requires dates { AreDates case.now dates.now }
+    requires fits { CalendarFits case.now calendar.now }
+    requires stays { ClosingsStay case.now (plan_of case.now calendar.now) }
+    requires pool { cell.row < length case.now.pools }
+    requires day { IsClosingDay case.now cell.day }
+    ensures { IfOk result (λ row. listed row
+        ≡ pool_record case.now dates.now (plan_of case.now calendar.now) cell.day cell.row) }
+{
+    let closed = pool_closed(case, calendar, cell.row, cell.day);
+    if closed == 0 {
+        return Ok(None);
+    }
+    let mut row = pool_start(alloc, case, dates, cell)?;
+    row.push_ratio(closed, calendar.den)?;
+    row.push_number(i128::from(case.pool(cell.row).cap))?;
+    Ok(Some(row))
+}
+
+/// Prints the weighted closings of the pools and their caps, by day, then by pool.
+pub(crate) fn put_pools(
+    alloc: Global,
+    out: &mut Vec<u8>,
+    case: &Case,
+    dates: &Dates,
+    calendar: &Calendar,
+) -> Result<(), AllocError>
+    requires dates { AreDates case.now dates.now }
+    requires fits { CalendarFits case.now calendar.now }
+    requires stays { ClosingsStay case.now (plan_of case.now calendar.now) }
+    ensures { OnOk result (out.new.items ≡ out.old.items
+        ++ rows_text (pool_records case.now dates.now (plan_of case.now calendar.now))) }
+{
+    let pools = case.pools();
+    let count = usize::from(case.horizon()) * pools;
+    for place in 0..count {
+        let cell = day_cell(case, pools, place);
+        put_some(alloc, out, pool_row(alloc, case, dates, calendar, cell)?)?;
+    }
+    Ok(())
+}

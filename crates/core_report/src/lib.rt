@@ -1,0 +1,18 @@
+//! The report of a checked certificate: of a calendar what it closes, what that uses of limits and pools, the ledger of
+//! its worst scenario and its greatest losses; of weights that refuse every calendar by how much the book is short.
+#![tactic(auto)]
+
+mod cells;
+mod closes;
+mod dates;
+mod fault;
+mod ledger;
+mod report;
+mod row;
+mod sums;
+mod top;
+mod weights;
+
+pub use fault::ReportFault;
+pub use report::report;
+pub use top::Loss;

@@ -1,0 +1,173 @@
+// The report of a certificate.
+ghost use Rattle.std.specs.Prelude.{◌≡◌, ◌≤ℤ◌, ◌++◌, ◌∷◌, [], codes, pos, IsTrue, OnOk, IfOk, IfErr};
+ghost use Rattle.core_rows.specs.Written.{rows_text};
+ghost use Rattle.core_model.specs.Bounds.{AreRefusing};
+ghost use Rattle.core_model.specs.Check.{verdict, Passed};
+ghost use Rattle.core_model.specs.Layout.{plan_of};
+ghost use Rattle.core_model.specs.Fits.{CalendarFits, Fits, IsKept, WeightsFit};
+ghost use Rattle.core_model.specs.Shows.{Shows};
+ghost use Rattle.core_cert.specs.Written.{is_plain_word};
+ghost use Rattle.core_report.specs.Records.{cannot_records, loss_records, ratio_record, rounded_up};
+ghost use Rattle.core_report.specs.Report.{AreDates, IsClosesReport, IsReport, StopsClosing, StopsReport};
+ghost use Rattle.core_report.specs.Stays.{BoundStays, ClosingsStay};
+
+use crate::closes::{put_closes, put_limits, put_pools};
+use crate::dates::Dates;
+use crate::fault::ReportFault;
+use crate::ledger::put_ledger;
+use crate::row::{Row, put};
+use crate::top::{greatest, losses, put_top};
+use crate::weights;
+use core_book::Case;
+use core_model::{Calendar, Cert, Weights};
+use core_replay::{replay, worst};
+use std::alloc::{AllocError, Global};
+
+/// A number that is not negative over a denominator, rounded up to a whole number.
+fn rounded_up(number: i128, den: i128) -> i128
+    requires number { pos 0 ≤ℤ number }
+    requires den { pos 1 ≤ℤ den }
+    ensures { result ≡ pos (rounded_up number den) }
+{
+    number / den + i128::from(number % den != 0)
+}
+
+/// Prints a record of two words.
+fn put_words(
+    alloc: Global,
+    out: &mut Vec<u8>,
+    first: &[u8],
+    second: &[u8],
+) -> Result<(), AllocError>
+    requires first { IsTrue (is_plain_word first.now) }
+    requires second { IsTrue (is_plain_word second.now) }
+    ensures { OnOk result (out.new.items
+        ≡ out.old.items ++ rows_text ((first.now ∷ second.now ∷ []) ∷ [])) }
+{
+    let mut row = Row::start(alloc, first)?;
+    row.push_word(second)?;
+    put(alloc, out, &row)
+}
+
+/// Prints a record of a word and a number over a denominator.
+fn put_ratio(
+    alloc: Global,
+    out: &mut Vec<u8>,
+    word: &[u8],
+    number: i128,
+    den: i128,
+) -> Result<(), AllocError>
+    requires word { IsTrue (is_plain_word word.now) }
+    requires number { IsKept number }
+    requires den { pos 1 ≤ℤ den }
+    ensures { OnOk result (out.new.items
+        ≡ out.old.items ++ rows_text (ratio_record word.now number den ∷ [])) }
+{
+    let mut row = Row::start(alloc, word)?;
+    row.push_ratio(number, den)?;
+    put(alloc, out, &row)
+}
+
+/// Prints the last record.
+fn put_end(alloc: Global, out: &mut Vec<u8>) -> Result<(), AllocError>
+    ensures { OnOk result (out.new.items ≡ out.old.items ++ rows_text ((codes "end" ∷ []) ∷ [])) }
+{
+    put(alloc, out, &Row::start(alloc, b"end")?)
+}
+
+/// Prints a loss, its margin, and the margin rounded up.
+fn put_loss(alloc: Global, out: &mut Vec<u8>, loss: i128, den: i128) -> Result<(), AllocError>
+    requires loss { IsKept loss }
+    requires den { pos 1 ≤ℤ den }
+    ensures { OnOk result (out.new.items ≡ out.old.items ++ rows_text (loss_records loss den)) }
+{
+    let margin = loss.max(0);
+    put_ratio(alloc, out, b"loss", loss, den)?;
+    put_ratio(alloc, out, b"margin", margin, den)?;
+    let mut row = Row::start(alloc, b"charge")?;
+    row.push_number(rounded_up(margin, den))?;
+    put(alloc, out, &row)
+}
+
+/// The report of a calendar.
+fn closes_report(
+    alloc: Global,
+    case: &Case,
+    dates: &Dates,
+    calendar: &Calendar,
+) -> Result<Vec<u8>, ReportFault>
+    requires dates { AreDates case.now dates.now }
+    requires fits { CalendarFits case.now calendar.now }
+    requires stays { ClosingsStay case.now (plan_of case.now calendar.now) }
+    ensures text { IfOk result (λ text.
+        IsClosesReport case.now (plan_of case.now calendar.now) text.items) }
+    ensures stops { IfErr result (StopsClosing case.now (plan_of case.now calendar.now)) }
+{
+    let worst = worst(alloc, case, calendar)?;
+    let ledger = replay(alloc, case, calendar, worst.scenario)?;
+    let top = greatest(alloc, &losses(alloc, case, calendar)?)?;
+    let mut out = Vec::new(alloc);
+    put_words(alloc, &mut out, b"report", b"closes")?;
+    put_loss(alloc, &mut out, worst.loss, calendar.den)?;
+    put_closes(alloc, &mut out, case, dates, calendar)?;
+    put_limits(alloc, &mut out, case, dates, calendar)?;
+    put_pools(alloc, &mut out, case, dates, calendar)?;
+    put_ledger(alloc, &mut out, case, dates, &ledger, worst.scenario)?;
+    put_top(alloc, &mut out, case, dates, calendar.den, &top)?;
+    put_end(alloc, &mut out)?;
+    Ok(out)
+}
+
+/// The report of weights that refuse every calendar.
+fn cannot_report(
+    alloc: Global,
+    case: &Case,
+    dates: &Dates,
+    weights: &Weights,
+) -> Result<Vec<u8>, AllocError>
+    requires dates { AreDates case.now dates.now }
+    requires fits { WeightsFit case.now weights.now }
+    requires refusing { AreRefusing case.now weights.now }
+    requires stays { BoundStays case.now weights.now }
+    ensures { IfOk result (λ text. text.items
+        ≡ rows_text (cannot_records case.now dates.now weights.now)) }
+{
+    let mut out = Vec::new(alloc);
+    put_words(alloc, &mut out, b"report", b"cannot")?;
+    let short = weights::short(case, weights);
+    put_ratio(alloc, &mut out, b"short", short, weights.den)?;
+    weights::put_fulls(alloc, &mut out, case, weights)?;
+    weights::put_limits(alloc, &mut out, case, dates, weights)?;
+    weights::put_pools(alloc, &mut out, case, dates, weights)?;
+    put_end(alloc, &mut out)?;
+    Ok(out)
+}
+
+/// The text of the report of a certificate that the check accepts: records of fields joined by commas, each ended by a
+/// line feed. Fractions are two fields in lowest terms, and 0 is 0 over 1.
+///
+/// Of a calendar there are: its loss, the margin, which is the loss floored at nought, and the charge, which is the
+/// margin rounded up; what is closed that is not 0, by day, line and tier; what is closed of the instruments, with the
+/// limit, by day, instrument and tier, and the weighted closings of the pools, with the cap, by day and pool, where
+/// closings on an expiry do not count; the ledger of the first scenario that has the worst loss, by house day: what is
+/// paid, and the cash; and the five greatest losses, or all where there are fewer, of equal ones that of the earlier
+/// scenario first, then that of the earlier day. Tiers are named where an instrument of the case has more than one.
+///
+/// Of weights that refuse there are: by how much the book is short, which is their bound, and then the weights that are
+/// not 0: by line, by day, instrument and tier, and by day and pool, all over the weights' denominator.
+///
+/// The answer is `TooWide` only of a calendar, with the first scenario and in it the first day whose replay meets a number
+/// above 2^127 - 1 in absolute value.
+pub fn report(alloc: Global, case: &Case, cert: &Cert) -> Result<Vec<u8>, ReportFault>
+    requires fits { Fits case.now cert.now }
+    requires passed { verdict case.now cert.now ≡ Passed }
+    requires shows { Shows case.now cert.now }
+    ensures text { IfOk result (λ text. IsReport case.now cert.now text.items) }
+    ensures stops { IfErr result (StopsReport case.now cert.now) }
+{
+    let dates = Dates::of_case(alloc, case)?;
+    match cert {
+        Cert::Closes { calendar, .. } => closes_report(alloc, case, &dates, calendar),
+        Cert::Cannot { weights } => Ok(cannot_report(alloc, case, &dates, weights)?),
+    }
+}

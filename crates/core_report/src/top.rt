@@ -1,0 +1,167 @@
+// The greatest losses of a calendar.
+ghost use Rattle.std.specs.Prelude.{◌≡◌, ◌≤◌, ◌≤ℤ◌, ◌<◌, ◌++◌, ℕ, pos, neg_ℤ, suc, length, map, IfOk, IfErr, OnOk};
+ghost use Rattle.std.proofs.Common.{rules};
+ghost use Rattle.std.specs.Cmp.{partial_order_from_own_ties};
+ghost use Rattle.std.specs.Cmp.Rules.{comparing};
+ghost use Rattle.std.specs.Ordering.{int_cmp, nat_cmp, on, flip_args, then_cmp, as_partial_cmp};
+ghost use Rattle.itertools.specs.Extremes.{IsKLeast, by_cmp};
+ghost use Rattle.core_sums.specs.Places.{at, below};
+ghost use Rattle.core_rows.specs.Written.{rows_text};
+ghost use Rattle.core_model.specs.Layout.{plan_of};
+ghost use Rattle.core_model.specs.Fits.{CalendarFits, IsKept};
+ghost use Rattle.core_replay.specs.Ledger.{NoneLeaves};
+ghost use Rattle.core_report.specs.declared.fault.ReportFault.TheVariants.{NoMemory};
+ghost use Rattle.core_report.specs.Ranking.{losses};
+ghost use Rattle.core_report.specs.Records.{loss_at, top_record, top_records};
+ghost use Rattle.core_report.specs.Report.{AreDates};
+ghost use Rattle.core_report.specs.Stays.{IsPlaced};
+
+use crate::dates::Dates;
+use crate::fault::ReportFault;
+use crate::row::{Row, put};
+use core_book::Case;
+use core_model::Calendar;
+use core_replay::{Ledger, replay};
+use itertools::Itertools;
+use std::alloc::{AllocError, Global};
+use std::cmp::Ordering;
+
+/// The loss of a scenario, from 0, on a house day, as a numerator over the calendar's denominator. The greater loss
+/// comes first, and of equal ones that of the earlier scenario, and in it that of the earlier day.
+#[derive(Clone, Copy, Debug, PartialEq, Eq)]
+pub struct Loss {
+    pub loss: i128,
+    pub scenario: usize,
+    pub day: u8,
+}
+
+impl Ord for Loss {
+    ghost cmp = { then_cmp (flip_args (on (λ l. l.loss) int_cmp)) (then_cmp (on (λ l. l.scenario) nat_cmp) (on (λ l. l.day) nat_cmp)) };
+
+    ghost total = { Prim.search (comparing, rules) depth 9 };
+
+    ghost matches_partial_cmp = { Prim.search (comparing, rules) };
+
+    ghost matches_eq = { Prim.search (comparing, rules) depth 9 };
+
+    fn cmp(&self, other: &Loss) -> Ordering {
+        other.loss.cmp(&self.loss).then(
+            self.scenario
+                .cmp(&other.scenario)
+                .then(self.day.cmp(&other.day)),
+        )
+    }
+}
+
+impl PartialOrd for Loss {
+    ghost partial_cmp = { as_partial_cmp (then_cmp (flip_args (on (λ l. l.loss) int_cmp)) (then_cmp (on (λ l. l.scenario) nat_cmp) (on (λ l. l.day) nat_cmp))) };
+
+    ghost laws = { partial_order_from_own_ties (Prim.search (comparing, rules) depth 9) (Prim.search (comparing, rules) depth 9) };
+
+    fn partial_cmp(&self, other: &Loss) -> Option<Ordering> {
+        Some(self.cmp(other))
+    }
+}
+
+/// How many of the greatest losses a report has.
+const TOP: usize = 5;
+
+/// Puts the losses of a scenario's ledger behind others, by house day.
+fn put_losses(
+    list: &mut Vec<Loss>,
+    ledger: &Ledger,
+    scenario: usize,
+    last: u8,
+) -> Result<(), AllocError>
+    requires days { length ledger.now.total ≡ suc last }
+    requires few { last ≤ 40 }
+    requires kept { (t : ℕ) → t ≤ last → IsKept (at ledger.now.total t) }
+    ensures { let loss_on = λ (t : ℕ). record {
+        loss = neg_ℤ (at ledger.now.total t); scenario = scenario; day = t } in
+        OnOk result (list.new.items ≡ list.old.items ++ map loss_on (below (suc last))) }
+{
+    for day in 0..last + 1 {
+        let loss = -ledger.total.get(usize::from(day));
+        list.push(Loss {
+            loss,
+            scenario,
+            day,
+        })?;
+    }
+    Ok(())
+}
+
+/// The losses of all scenarios, by scenario and then by house day, of a calendar whose replays stay within 128 bits.
+pub(crate) fn losses(
+    alloc: Global,
+    case: &Case,
+    calendar: &Calendar,
+) -> Result<Vec<Loss>, ReportFault>
+    requires fits { CalendarFits case.now calendar.now }
+    requires den { pos 1 ≤ℤ calendar.now.den }
+    requires stays { NoneLeaves case.now (plan_of case.now calendar.now) }
+    ensures listed { IfOk result (λ list. list.items
+        ≡ losses case.now (plan_of case.now calendar.now)) }
+    ensures memory { IfErr result (λ fault. fault ≡ NoMemory) }
+{
+    let last = case.last();
+    let mut list = Vec::new(alloc);
+    for scenario in 0..case.scenarios() {
+        let ledger = replay(alloc, case, calendar, scenario)?;
+        put_losses(&mut list, &ledger, scenario, last)?;
+    }
+    Ok(list)
+}
+
+/// The greatest of some losses, the greatest first.
+pub(crate) fn greatest(alloc: Global, losses: &[Loss]) -> Result<Vec<Loss>, AllocError>
+    ensures { IfOk result (λ top.
+        IsKLeast (by_cmp ⟦<Loss as Ord>⟧.cmp) 5 losses.now top.items) }
+{
+    losses.iter().copied().k_smallest(alloc, TOP)?.collect(alloc)
+}
+
+/// A loss of a rank from 1.
+fn top_row(
+    alloc: Global,
+    case: &Case,
+    dates: &Dates,
+    den: i128,
+    rank: usize,
+    loss: Loss,
+) -> Result<Row, AllocError>
+    requires dates { AreDates case.now dates.now }
+    requires den { pos 1 ≤ℤ den }
+    requires loss { IsPlaced case.now loss }
+    ensures { IfOk result (λ row. row ≡ top_record case.now dates.now den rank loss) }
+{
+    let mut row = Row::start(alloc, b"top")?;
+    row.push_number(rank as i128)?;
+    row.push_name(case.scenario(loss.scenario))?;
+    row.push_date(dates, loss.day)?;
+    row.push_ratio(loss.loss, den)?;
+    Ok(row)
+}
+
+/// Prints losses by rank.
+pub(crate) fn put_top(
+    alloc: Global,
+    out: &mut Vec<u8>,
+    case: &Case,
+    dates: &Dates,
+    den: i128,
+    top: &[Loss],
+) -> Result<(), AllocError>
+    requires dates { AreDates case.now dates.now }
+    requires den { pos 1 ≤ℤ den }
+    requires few { length top.now ≤ 5 }
+    requires placed { (n : ℕ) → n < length top.now → IsPlaced case.now (loss_at top.now n) }
+    ensures { OnOk result (out.new.items
+        ≡ out.old.items ++ rows_text (top_records case.now dates.now den top.now)) }
+{
+    for n in 0..top.len() {
+        let row = top_row(alloc, case, dates, den, n + 1, top[n])?;
+        put(alloc, out, &row)?;
+    }
+    Ok(())
+}
