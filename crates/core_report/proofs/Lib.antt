@@ -1,0 +1,12 @@
+mod Printed
+mod ByPlace
+mod Rowed
+mod Rows
+mod Formed
+mod HouseDates
+mod Listed
+mod Placed
+mod Passed
+mod Checked
+mod Refusing
+mod RoundedUp

@@ -1,5 +1,5 @@
 -- The records of a report. The texts of the house days' dates are handed in as a list, by day.
-use Rattle.std.specs.Prelude.{ℕ, suc, ◌+◌, ◌-◌, ◌/◌, ℤ, pos, unsigned_abs, List, [], ◌∷◌, ◌++◌, length, get_or, map, codes, decimal, if◌then◌else◌, Option, Some, None}
+use Rattle.std.specs.Prelude.{ℕ, suc, ◌+◌, ◌/◌, ◌%◌, min, ℤ, pos, unsigned_abs, List, [], ◌∷◌, ◌++◌, length, get_or, map, codes, decimal, if◌then◌else◌, Option, Some, None}
 use Rattle.std.specs.Ordering.{int_eq}
 use Rattle.core_sums.specs.Sums.{total}
 use Rattle.core_sums.specs.Places.{below, days_to, each, row_at}
@@ -24,9 +24,9 @@ listed (Some row) = row ∷ []
 abbrev pub ratio_fields : ℤ → ℤ → Record
 ratio_fields z d = let r : Fraction = reduce z (unsigned_abs d) in number_text r.num ∷ decimal r.den ∷ []
 
--- a number that is not negative over a denominator, rounded up to a whole number
+-- a number that is not negative over a denominator, rounded up: one more where something is left over
 abbrev pub rounded_up : ℤ → ℤ → ℕ
-rounded_up z d = (unsigned_abs z + (unsigned_abs d - 1)) / unsigned_abs d
+rounded_up z d = unsigned_abs z / unsigned_abs d + min 1 (unsigned_abs z % unsigned_abs d)
 
 -- a record of some fields, a numerator over a denominator and more fields; none where the numerator is 0
 abbrev pub unless_zero : Record → ℤ → ℤ → Record → List Record

@@ -6,16 +6,36 @@ ghost use Rattle.core_model.specs.Closing.{IsClosingDay, IsTierNumber, line_coun
 ghost use Rattle.core_model.specs.Layout.{plan_of};
 ghost use Rattle.core_model.specs.Fits.{CalendarFits};
 ghost use Rattle.core_report.specs.Report.{AreDates};
-ghost use Rattle.core_report.specs.Records.{close_record, close_records, limit_fields, limit_record, limit_records, listed, pool_fields, pool_record, pool_records};
+ghost use Rattle.core_report.specs.Records.{close_fields, close_record, close_records, limit_fields, limit_record, limit_records, listed, pool_fields, pool_record, pool_records};
 ghost use Rattle.core_report.specs.Stays.{ClosingsStay};
 
-use crate::cells::{day_cell, tier_cell};
+use crate::cells::{day_cell, day_places, tier_cell, tier_places};
 use crate::dates::Dates;
 use crate::row::{Row, put_some};
 use crate::sums::{pool_closed, tier_closed};
 use core_book::Case;
 use core_model::{Calendar, ClosingCell, DayCell};
 use std::alloc::{AllocError, Global};
+
+/// A record of a closing that begins with its day, its line and its tier.
+fn close_start(
+    alloc: Global,
+    case: &Case,
+    dates: &Dates,
+    cell: ClosingCell,
+) -> Result<Row, AllocError>
+    requires kept { IsCase case.now }
+    requires dates { AreDates case.now dates.now }
+    requires line { cell.row < line_count case.now }
+    requires day { IsClosingDay case.now cell.day }
+    ensures { IfOk result (λ row. row ≡ close_fields case.now dates.now cell.day cell.row cell.tier) }
+{
+    let mut row = Row::start(alloc, b"close")?;
+    row.push_date(dates, cell.day)?;
+    row.push_line(case, cell.row)?;
+    row.push_tier(case, cell.tier)?;
+    Ok(row)
+}
 
 /// What is closed of a line on a day in a tier, none where it is 0.
 fn close_row(
@@ -25,6 +45,7 @@ fn close_row(
     calendar: &Calendar,
     cell: ClosingCell,
 ) -> Result<Option<Row>, AllocError>
+    requires kept { IsCase case.now }
     requires dates { AreDates case.now dates.now }
     requires fits { CalendarFits case.now calendar.now }
     requires den { pos 1 ≤ℤ calendar.now.den }
@@ -38,10 +59,7 @@ fn close_row(
     if amount == 0 {
         return Ok(None);
     }
-    let mut row = Row::start(alloc, b"close")?;
-    row.push_date(dates, cell.day)?;
-    row.push_line(case, cell.row)?;
-    row.push_tier(case, cell.tier)?;
+    let mut row = close_start(alloc, case, dates, cell)?;
     row.push_ratio(amount, calendar.den)?;
     Ok(Some(row))
 }
@@ -54,17 +72,17 @@ pub(crate) fn put_closes(
     dates: &Dates,
     calendar: &Calendar,
 ) -> Result<(), AllocError>
+    requires kept { IsCase case.now }
     requires dates { AreDates case.now dates.now }
     requires fits { CalendarFits case.now calendar.now }
     requires den { pos 1 ≤ℤ calendar.now.den }
     ensures { OnOk result (out.new.items ≡ out.old.items
         ++ rows_text (close_records case.now dates.now (plan_of case.now calendar.now))) }
 {
-    let lines = case.lines();
-    let count = usize::from(case.horizon()) * (lines * usize::from(case.tiers()));
-    for place in 0..count {
-        let cell = tier_cell(case, lines, place);
-        put_some(alloc, out, close_row(alloc, case, dates, calendar, cell)?)?;
+    for place in 0..tier_places(case, case.lines()) {
+        let cell = tier_cell(case, case.lines(), place);
+        let row = close_row(alloc, case, dates, calendar, cell)?;
+        put_some(alloc, out, row)?;
     }
     Ok(())
 }
@@ -76,6 +94,7 @@ pub(crate) fn limit_start(
     dates: &Dates,
     cell: ClosingCell,
 ) -> Result<Row, AllocError>
+    requires kept { IsCase case.now }
     requires dates { AreDates case.now dates.now }
     requires instrument { cell.row < length case.now.instruments }
     requires day { IsClosingDay case.now cell.day }
@@ -96,6 +115,7 @@ fn limit_row(
     calendar: &Calendar,
     cell: ClosingCell,
 ) -> Result<Option<Row>, AllocError>
+    requires kept { IsCase case.now }
     requires dates { AreDates case.now dates.now }
     requires fits { CalendarFits case.now calendar.now }
     requires stays { ClosingsStay case.now (plan_of case.now calendar.now) }
@@ -114,7 +134,7 @@ fn limit_row(
     }
     let mut row = limit_start(alloc, case, dates, cell)?;
     row.push_ratio(closed, calendar.den)?;
-    row.push_number(i128::from(case.limit(cell.row, cell.day, cell.tier)))?;
+    row.push_whole(case.limit(cell.row, cell.day, cell.tier))?;
     Ok(Some(row))
 }
 
@@ -126,17 +146,17 @@ pub(crate) fn put_limits(
     dates: &Dates,
     calendar: &Calendar,
 ) -> Result<(), AllocError>
+    requires kept { IsCase case.now }
     requires dates { AreDates case.now dates.now }
     requires fits { CalendarFits case.now calendar.now }
     requires stays { ClosingsStay case.now (plan_of case.now calendar.now) }
     ensures { OnOk result (out.new.items ≡ out.old.items
         ++ rows_text (limit_records case.now dates.now (plan_of case.now calendar.now))) }
 {
-    let instruments = case.instruments();
-    let count = usize::from(case.horizon()) * (instruments * usize::from(case.tiers()));
-    for place in 0..count {
-        let cell = tier_cell(case, instruments, place);
-        put_some(alloc, out, limit_row(alloc, case, dates, calendar, cell)?)?;
+    for place in 0..tier_places(case, case.instruments()) {
+        let cell = tier_cell(case, case.instruments(), place);
+        let row = limit_row(alloc, case, dates, calendar, cell)?;
+        put_some(alloc, out, row)?;
     }
     Ok(())
 }
@@ -148,6 +168,7 @@ pub(crate) fn pool_start(
     dates: &Dates,
     cell: DayCell,
 ) -> Result<Row, AllocError>
+    requires kept { IsCase case.now }
     requires dates { AreDates case.now dates.now }
     requires pool { cell.row < length case.now.pools }
     requires day { IsClosingDay case.now cell.day }
@@ -182,7 +203,7 @@ fn pool_row(
     }
     let mut row = pool_start(alloc, case, dates, cell)?;
     row.push_ratio(closed, calendar.den)?;
-    row.push_number(i128::from(case.pool(cell.row).cap))?;
+    row.push_whole(case.pool(cell.row).cap)?;
     Ok(Some(row))
 }
 
@@ -194,17 +215,17 @@ pub(crate) fn put_pools(
     dates: &Dates,
     calendar: &Calendar,
 ) -> Result<(), AllocError>
+    requires kept { IsCase case.now }
     requires dates { AreDates case.now dates.now }
     requires fits { CalendarFits case.now calendar.now }
     requires stays { ClosingsStay case.now (plan_of case.now calendar.now) }
     ensures { OnOk result (out.new.items ≡ out.old.items
         ++ rows_text (pool_records case.now dates.now (plan_of case.now calendar.now))) }
 {
-    let pools = case.pools();
-    let count = usize::from(case.horizon()) * pools;
-    for place in 0..count {
-        let cell = day_cell(case, pools, place);
-        put_some(alloc, out, pool_row(alloc, case, dates, calendar, cell)?)?;
+    for place in 0..day_places(case, case.pools()) {
+        let cell = day_cell(case, case.pools(), place);
+        let row = pool_row(alloc, case, dates, calendar, cell)?;
+        put_some(alloc, out, row)?;
     }
     Ok(())
 }

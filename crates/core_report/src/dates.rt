@@ -6,6 +6,7 @@ ghost use Rattle.core_rows.specs.Written.{date_text};
 ghost use Rattle.core_report.specs.Report.{AreDates};
 
 use core_book::Case;
+use core_rows::law_of_date_texts;
 use jiff::civil::Date;
 use std::alloc::{AllocError, Global};
 use std::marker::Model;
@@ -33,6 +34,8 @@ impl Dates {
     pub(crate) fn of_case(alloc: Global, case: &Case) -> Result<Dates, AllocError>
         ensures { IfOk result (AreDates case.now) }
     {
+        // The text of a date is read as this date.
+        law_of_date_texts();
         let last = case.last();
         let mut list = Vec::with_capacity(alloc, usize::from(last) + 1)?;
         for t in 0..last + 1 {

@@ -7,6 +7,7 @@ ghost use Rattle.core_report.specs.Records.{ledger_record, ledger_records};
 ghost use Rattle.core_report.specs.Stays.{IsKeptLedger};
 
 use crate::dates::Dates;
+use crate::numbers::number;
 use crate::row::{Row, put};
 use core_book::Case;
 use core_replay::Ledger;
@@ -28,11 +29,13 @@ fn ledger_row(
     ensures { IfOk result (λ row. row ≡ ledger_record case.now dates.now scenario
         (at ledger.now.paid) (at ledger.now.total) ledger.now.den t) }
 {
+    let paid = number(&ledger.paid, usize::from(t));
+    let cash = number(&ledger.total, usize::from(t));
     let mut row = Row::start(alloc, b"ledger")?;
     row.push_name(case.scenario(scenario))?;
     row.push_date(dates, t)?;
-    row.push_ratio(ledger.paid.get(usize::from(t)), ledger.den)?;
-    row.push_ratio(ledger.total.get(usize::from(t)), ledger.den)?;
+    row.push_ratio(paid, ledger.den)?;
+    row.push_ratio(cash, ledger.den)?;
     Ok(row)
 }
 

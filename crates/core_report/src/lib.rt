@@ -7,12 +7,13 @@ mod closes;
 mod dates;
 mod fault;
 mod ledger;
-mod report;
+mod numbers;
 mod row;
 mod sums;
+mod text;
 mod top;
 mod weights;
 
 pub use fault::ReportFault;
-pub use report::report;
+pub use text::report;
 pub use top::Loss;

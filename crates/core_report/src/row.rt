@@ -83,6 +83,13 @@ impl Row {
         self.fields.push_number(number)
     }
 
+    /// Adds a whole number of the case.
+    pub(crate) fn push_whole(&mut self, number: i64) -> Result<(), AllocError>
+        ensures { OnOk result (self.new ≡ self.old ++ (number_text number ∷ [])) }
+    {
+        self.push_number(i128::from(number))
+    }
+
     /// Adds the date of a house day.
     pub(crate) fn push_date(&mut self, dates: &Dates, t: u8) -> Result<(), AllocError>
         requires { t < length dates.now }

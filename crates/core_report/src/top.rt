@@ -1,23 +1,25 @@
 // The greatest losses of a calendar.
-ghost use Rattle.std.specs.Prelude.{◌≡◌, ◌≤◌, ◌≤ℤ◌, ◌<◌, ◌++◌, ℕ, pos, neg_ℤ, suc, length, map, IfOk, IfErr, OnOk};
+ghost use Rattle.std.specs.Prelude.{◌≡◌, ◌≤◌, ◌≤ℤ◌, ◌<◌, ◌++◌, ℕ, pos, neg_ℤ, suc, length, IfOk, IfErr, OnOk};
 ghost use Rattle.std.proofs.Common.{rules};
 ghost use Rattle.std.specs.Cmp.{partial_order_from_own_ties};
 ghost use Rattle.std.specs.Cmp.Rules.{comparing};
 ghost use Rattle.std.specs.Ordering.{int_cmp, nat_cmp, on, flip_args, then_cmp, as_partial_cmp};
+ghost use Rattle.std.specs.Vec.Iter.{into_iter_items};
 ghost use Rattle.itertools.specs.Extremes.{IsKLeast, by_cmp};
-ghost use Rattle.core_sums.specs.Places.{at, below};
+ghost use Rattle.core_sums.specs.Places.{at};
 ghost use Rattle.core_rows.specs.Written.{rows_text};
 ghost use Rattle.core_model.specs.Layout.{plan_of};
-ghost use Rattle.core_model.specs.Fits.{CalendarFits, IsKept};
+ghost use Rattle.core_model.specs.Fits.{AreKept, CalendarFits, IsKept};
 ghost use Rattle.core_replay.specs.Ledger.{NoneLeaves};
 ghost use Rattle.core_report.specs.declared.fault.ReportFault.TheVariants.{NoMemory};
-ghost use Rattle.core_report.specs.Ranking.{losses};
+ghost use Rattle.core_report.specs.Ranking.{loss_on, losses, losses_by_day};
 ghost use Rattle.core_report.specs.Records.{loss_at, top_record, top_records};
 ghost use Rattle.core_report.specs.Report.{AreDates};
 ghost use Rattle.core_report.specs.Stays.{IsPlaced};
 
 use crate::dates::Dates;
 use crate::fault::ReportFault;
+use crate::numbers::number;
 use crate::row::{Row, put};
 use core_book::Case;
 use core_model::Calendar;
@@ -25,6 +27,7 @@ use core_replay::{Ledger, replay};
 use itertools::Itertools;
 use std::alloc::{AllocError, Global};
 use std::cmp::Ordering;
+use std::vec::IntoIter;
 
 /// The loss of a scenario, from 0, on a house day, as a numerator over the calendar's denominator. The greater loss
 /// comes first, and of equal ones that of the earlier scenario, and in it that of the earlier day.
@@ -63,30 +66,35 @@ impl PartialOrd for Loss {
     }
 }
 
-/// How many of the greatest losses a report has.
-const TOP: usize = 5;
+/// The loss of a house day of a scenario's ledger: minus its total.
+fn loss_on(ledger: &Ledger, scenario: usize, day: u8) -> Loss
+    requires day { day < length ledger.now.total }
+    requires kept { IsKept (at ledger.now.total day) }
+    ensures { result ≡ loss_on scenario (λ t. neg_ℤ (at ledger.now.total t)) day }
+{
+    let loss = -number(&ledger.total, usize::from(day));
+    Loss {
+        loss,
+        scenario,
+        day,
+    }
+}
 
 /// Puts the losses of a scenario's ledger behind others, by house day.
 fn put_losses(
     list: &mut Vec<Loss>,
+    case: &Case,
     ledger: &Ledger,
     scenario: usize,
-    last: u8,
 ) -> Result<(), AllocError>
-    requires days { length ledger.now.total ≡ suc last }
-    requires few { last ≤ 40 }
-    requires kept { (t : ℕ) → t ≤ last → IsKept (at ledger.now.total t) }
-    ensures { let loss_on = λ (t : ℕ). record {
-        loss = neg_ℤ (at ledger.now.total t); scenario = scenario; day = t } in
-        OnOk result (list.new.items ≡ list.old.items ++ map loss_on (below (suc last))) }
+    requires { AreKept (suc case.now.last) ledger.now.total }
+    ensures { OnOk result (list.new.items ≡ list.old.items
+        ++ losses_by_day case.now scenario (λ t. neg_ℤ (at ledger.now.total t))) }
 {
+    let last = case.last();
     for day in 0..last + 1 {
-        let loss = -ledger.total.get(usize::from(day));
-        list.push(Loss {
-            loss,
-            scenario,
-            day,
-        })?;
+        let loss = loss_on(ledger, scenario, day);
+        list.push(loss)?;
     }
     Ok(())
 }
@@ -104,21 +112,27 @@ pub(crate) fn losses(
         ≡ losses case.now (plan_of case.now calendar.now)) }
     ensures memory { IfErr result (λ fault. fault ≡ NoMemory) }
 {
-    let last = case.last();
     let mut list = Vec::new(alloc);
     for scenario in 0..case.scenarios() {
         let ledger = replay(alloc, case, calendar, scenario)?;
-        put_losses(&mut list, &ledger, scenario, last)?;
+        put_losses(&mut list, case, &ledger, scenario)?;
     }
     Ok(list)
 }
 
 /// The greatest of some losses, the greatest first.
-pub(crate) fn greatest(alloc: Global, losses: &[Loss]) -> Result<Vec<Loss>, AllocError>
+pub(crate) fn greatest(alloc: Global, losses: &[Loss]) -> Result<IntoIter<Loss>, AllocError>
     ensures { IfOk result (λ top.
-        IsKLeast (by_cmp ⟦<Loss as Ord>⟧.cmp) 5 losses.now top.items) }
+        IsKLeast (by_cmp ⟦<Loss as Ord>⟧.cmp) 5 losses.now (into_iter_items top)) }
 {
-    losses.iter().copied().k_smallest(alloc, TOP)?.collect(alloc)
+    losses.iter().copied().k_smallest(alloc, 5)
+}
+
+/// Some losses as a list.
+pub(crate) fn listed(alloc: Global, top: IntoIter<Loss>) -> Result<Vec<Loss>, AllocError>
+    ensures { IfOk result (λ list. list.items ≡ into_iter_items top) }
+{
+    top.collect(alloc)
 }
 
 /// A loss of a rank from 1.

@@ -3,6 +3,7 @@ ghost use Rattle.std.specs.Prelude.{◌≡◌, ◌≤ℤ◌, ◌*ℤ◌, neg_ℤ
 ghost use Rattle.core_sums.specs.Sums.{total};
 ghost use Rattle.core_sums.specs.Places.{at};
 ghost use Rattle.core_rows.specs.Written.{rows_text};
+ghost use Rattle.core_book.specs.Kept.{IsCase};
 ghost use Rattle.core_book.specs.View.{limit, line, pool};
 ghost use Rattle.core_model.specs.Closing.{IsClosingDay, IsTierNumber, line_count};
 ghost use Rattle.core_model.specs.Layout.{day_at_place, pool_at_place, pool_day_at_place, row_at_place, tier_at_place};
@@ -14,9 +15,10 @@ ghost use Rattle.core_report.specs.Report.{AreDates};
 ghost use Rattle.core_report.specs.Records.{full_weight_record, full_weight_records, limit_weight_record, limit_weight_records, listed, pool_weight_record, pool_weight_records};
 ghost use Rattle.core_report.specs.Stays.{BoundStays};
 
-use crate::cells::{day_cell, tier_cell};
+use crate::cells::{day_cell, day_places, tier_cell, tier_places};
 use crate::closes::{limit_start, pool_start};
 use crate::dates::Dates;
+use crate::numbers::number;
 use crate::row::{Row, put_some};
 use core_book::Case;
 use core_model::{ClosingCell, DayCell, Weights, closing_cell, pool_cell};
@@ -46,7 +48,7 @@ fn minus_limit(case: &Case, weights: &Weights, sum: i128, place: usize) -> Optio
 {
     let cell = closing_cell(case, case.instruments(), place);
     let limit = case.limit(cell.row, cell.day, cell.tier);
-    minus_product(sum, i128::from(limit), weights.limit.get(place))
+    minus_product(sum, i128::from(limit), number(&weights.limit, place))
 }
 
 /// The sum less the weight of a cap times the cap.
@@ -58,7 +60,7 @@ fn minus_cap(case: &Case, weights: &Weights, sum: i128, place: usize) -> Option<
 {
     let cell = pool_cell(case, case.pools(), place);
     let cap = case.pool(cell.row).cap;
-    minus_product(sum, i128::from(cap), weights.pool.get(place))
+    minus_product(sum, i128::from(cap), number(&weights.pool, place))
 }
 
 /// The bound of weights that refuse, which have no scenario weight, or None where a number leaves.
@@ -68,11 +70,7 @@ fn bound(case: &Case, weights: &Weights) -> Option<i128>
     requires stays { BoundStays case.now weights.now }
     ensures { result ≡ Some (total (bound_terms case.now weights.now)) }
 {
-    let full = add_each(
-        0,
-        case.lines(),
-        |sum, l| plus_full(case, weights, sum, l),
-    )?;
+    let full = add_each(0, case.lines(), |sum, l| plus_full(case, weights, sum, l))?;
     let limits = add_each(full, weights.limit.len(), |sum, place| {
         minus_limit(case, weights, sum, place)
     })?;
@@ -127,7 +125,8 @@ pub(crate) fn put_fulls(
         ≡ out.old.items ++ rows_text (full_weight_records case.now weights.now)) }
 {
     for l in 0..case.lines() {
-        put_some(alloc, out, full_row(alloc, case, weights, l)?)?;
+        let row = full_row(alloc, case, weights, l)?;
+        put_some(alloc, out, row)?;
     }
     Ok(())
 }
@@ -140,6 +139,7 @@ fn limit_row(
     weights: &Weights,
     cell: ClosingCell,
 ) -> Result<Option<Row>, AllocError>
+    requires kept { IsCase case.now }
     requires dates { AreDates case.now dates.now }
     requires fits { WeightsFit case.now weights.now }
     requires den { pos 1 ≤ℤ weights.now.den }
@@ -166,17 +166,17 @@ pub(crate) fn put_limits(
     dates: &Dates,
     weights: &Weights,
 ) -> Result<(), AllocError>
+    requires kept { IsCase case.now }
     requires dates { AreDates case.now dates.now }
     requires fits { WeightsFit case.now weights.now }
     requires den { pos 1 ≤ℤ weights.now.den }
     ensures { OnOk result (out.new.items ≡ out.old.items
         ++ rows_text (limit_weight_records case.now dates.now weights.now)) }
 {
-    let instruments = case.instruments();
-    let count = usize::from(case.horizon()) * (instruments * usize::from(case.tiers()));
-    for place in 0..count {
-        let cell = tier_cell(case, instruments, place);
-        put_some(alloc, out, limit_row(alloc, case, dates, weights, cell)?)?;
+    for place in 0..tier_places(case, case.instruments()) {
+        let cell = tier_cell(case, case.instruments(), place);
+        let row = limit_row(alloc, case, dates, weights, cell)?;
+        put_some(alloc, out, row)?;
     }
     Ok(())
 }
@@ -189,6 +189,7 @@ fn pool_row(
     weights: &Weights,
     cell: DayCell,
 ) -> Result<Option<Row>, AllocError>
+    requires kept { IsCase case.now }
     requires dates { AreDates case.now dates.now }
     requires fits { WeightsFit case.now weights.now }
     requires den { pos 1 ≤ℤ weights.now.den }
@@ -214,17 +215,17 @@ pub(crate) fn put_pools(
     dates: &Dates,
     weights: &Weights,
 ) -> Result<(), AllocError>
+    requires kept { IsCase case.now }
     requires dates { AreDates case.now dates.now }
     requires fits { WeightsFit case.now weights.now }
     requires den { pos 1 ≤ℤ weights.now.den }
     ensures { OnOk result (out.new.items ≡ out.old.items
         ++ rows_text (pool_weight_records case.now dates.now weights.now)) }
 {
-    let pools = case.pools();
-    let count = usize::from(case.horizon()) * pools;
-    for place in 0..count {
-        let cell = day_cell(case, pools, place);
-        put_some(alloc, out, pool_row(alloc, case, dates, weights, cell)?)?;
+    for place in 0..day_places(case, case.pools()) {
+        let cell = day_cell(case, case.pools(), place);
+        let row = pool_row(alloc, case, dates, weights, cell)?;
+        put_some(alloc, out, row)?;
     }
     Ok(())
 }

@@ -1,6 +1,7 @@
 // The report of a certificate.
 ghost use Rattle.std.specs.Prelude.{◌≡◌, ◌≤ℤ◌, ◌++◌, ◌∷◌, [], codes, pos, IsTrue, OnOk, IfOk, IfErr};
 ghost use Rattle.core_rows.specs.Written.{rows_text};
+ghost use Rattle.core_book.specs.Kept.{IsCase};
 ghost use Rattle.core_model.specs.Bounds.{AreRefusing};
 ghost use Rattle.core_model.specs.Check.{verdict, Passed};
 ghost use Rattle.core_model.specs.Layout.{plan_of};
@@ -16,7 +17,7 @@ use crate::dates::Dates;
 use crate::fault::ReportFault;
 use crate::ledger::put_ledger;
 use crate::row::{Row, put};
-use crate::top::{greatest, losses, put_top};
+use crate::top::{greatest, listed, losses, put_top};
 use crate::weights;
 use core_book::Case;
 use core_model::{Calendar, Cert, Weights};
@@ -29,7 +30,7 @@ fn rounded_up(number: i128, den: i128) -> i128
     requires den { pos 1 ≤ℤ den }
     ensures { result ≡ pos (rounded_up number den) }
 {
-    number / den + i128::from(number % den != 0)
+    number.unsigned_abs().div_ceil(den.unsigned_abs()) as i128
 }
 
 /// Prints a record of two words.
@@ -96,6 +97,7 @@ fn closes_report(
     dates: &Dates,
     calendar: &Calendar,
 ) -> Result<Vec<u8>, ReportFault>
+    requires kept { IsCase case.now }
     requires dates { AreDates case.now dates.now }
     requires fits { CalendarFits case.now calendar.now }
     requires stays { ClosingsStay case.now (plan_of case.now calendar.now) }
@@ -105,7 +107,8 @@ fn closes_report(
 {
     let worst = worst(alloc, case, calendar)?;
     let ledger = replay(alloc, case, calendar, worst.scenario)?;
-    let top = greatest(alloc, &losses(alloc, case, calendar)?)?;
+    let losses = losses(alloc, case, calendar)?;
+    let top = listed(alloc, greatest(alloc, &losses)?)?;
     let mut out = Vec::new(alloc);
     put_words(alloc, &mut out, b"report", b"closes")?;
     put_loss(alloc, &mut out, worst.loss, calendar.den)?;
@@ -125,6 +128,7 @@ fn cannot_report(
     dates: &Dates,
     weights: &Weights,
 ) -> Result<Vec<u8>, AllocError>
+    requires kept { IsCase case.now }
     requires dates { AreDates case.now dates.now }
     requires fits { WeightsFit case.now weights.now }
     requires refusing { AreRefusing case.now weights.now }

@@ -1,0 +1,69 @@
+-- The dates of house days, and what their texts say.
+use Rattle.std.proofs.Common.{◌≡◌, refl, sym, ◌∙◌, ap, ℕ, zero, suc, ◌<◌, ◌≤◌, lit≤, arith, ℤ, pos, negsuc, ◌+ℤ◌, ◌≤ℤ◌, ◌<ℤ◌, inl, List, [], ◌∷◌, ◌++◌, ◌+◌, length, map, get_or, Option, Some, None}
+use Rattle.std.proofs.lemmas.Int.{ints}
+use Rattle.std.proofs.lemmas.List.{length-map, map-append}
+use Rattle.jiff_core.specs.Calendar.{IsBetween, day_count, days_from_civil, days_of_months, days_of_years}
+use Rattle.jiff_core.specs.Date.{epoch_day}
+use Rattle.jiff_core.specs.declared.civil.date.Date.{Date}
+use Rattle.jiff_core.proofs.DateLemmas.{epoch_day-lt}
+use Rattle.core_sums.specs.Places.{below, row_at}
+use Rattle.core_sums.proofs.Lists.{length-below, get_or-below}
+use Rattle.core_rows.specs.Fields.{day_of}
+use Rattle.core_rows.specs.Written.{date_text}
+use Rattle.core_book.specs.View.{CaseView, date}
+use Rattle.core_book.specs.Kept.{IsCase}
+use Rattle.core_report.specs.Report.{AreDates}
+
+-- the first day of the year 1
+abbrev year_one : Date
+year_one = record { year = pos 1; month = 1; day = 1; year_in = omega (arith, ints); month_in = (lit≤ tt, lit≤ tt); day_in = (lit≤ tt, lit≤ tt) }
+
+begins : epoch_day year_one ≡ negsuc 719161
+unfolding days_from_civil day_count days_of_years days_of_months
+begins = refl
+
+from-one : (y : ℤ) → (y <ℤ pos 1 → ⊥) → pos 1 ≤ℤ y
+from-one (pos zero) later = absurd (later (omega (arith, ints)))
+from-one (pos (suc n)) later = omega (arith, ints)
+from-one (negsuc n) later = absurd (later (omega (arith, ints)))
+
+-- a date from 1900 on is of a year that ten bytes can write
+pub printed-year : (d : Date) → negsuc 25566 ≤ℤ epoch_day d → IsBetween (pos 1) (pos 9999) d.year
+printed-year d from =
+    (from-one d.year (λ early. let before = epoch_day-lt d year_one (inl early) in absurd (omega (arith, ints, from, before, begins))), omega (arith, ints, d.year_in))
+
+-- no house day lies before 1900
+pub house-date-from : (c : CaseView) (t : ℕ) → IsCase c → negsuc 25566 ≤ℤ date c t
+house-date-from c t kept = let start = kept.start.0 in omega (arith, ints, start)
+
+-- what a list of dates is read as, and what its texts are
+abbrev pub read_dates : List Date → List (Option ℤ)
+read_dates dates = map (λ d. day_of (date_text d)) dates
+
+abbrev pub house_dates : CaseView → ℕ → List (Option ℤ)
+house_dates c n = map (λ t. Some (date c t)) (below n)
+
+pub read-none : (c : CaseView) → read_dates [] ≡ house_dates c 0
+unfolding below
+read-none c = refl
+
+pub read-more : (c : CaseView) (n : ℕ) (dates : List Date) (d : Date) → read_dates dates ≡ house_dates c n → day_of (date_text d) ≡ Some (date c n)
+    → read_dates (dates ++ (d ∷ [])) ≡ house_dates c (n + 1)
+unfolding below
+read-more c n dates d e read =
+    let more : n + 1 ≡ suc n = omega arith in
+    map-append (λ d. day_of (date_text d)) dates (d ∷ [])
+    ∙ ap (λ xs. xs ++ (day_of (date_text d) ∷ [])) e
+    ∙ ap (λ x. house_dates c n ++ (x ∷ [])) read
+    ∙ sym (ap (λ (k : ℕ). house_dates c k) more ∙ map-append (λ t. Some (date c t)) (below n) (n ∷ []))
+
+read-at : (dates : List Date) (i : ℕ) → get_or (read_dates dates) i None ≡ day_of (row_at (map date_text dates) i)
+read-at [] i = refl
+read-at (d ∷ ds) zero = refl
+read-at (d ∷ ds) (suc i) = read-at ds i
+
+pub dates-read : (c : CaseView) (n : ℕ) (dates : List Date) → n ≡ suc c.last → read_dates dates ≡ house_dates c n → AreDates c (map date_text dates)
+dates-read c n dates all e = record {
+  count = length-map dates date_text ∙ sym (length-map dates (λ d. day_of (date_text d))) ∙ ap length e ∙ length-map (below n) (λ t. Some (date c t)) ∙ length-below n ∙ all;
+  each = λ t within. sym (read-at dates t) ∙ ap (λ xs. get_or xs t None) e ∙ get_or-below n t (λ t. Some (date c t)) None (omega (arith, within, all));
+}

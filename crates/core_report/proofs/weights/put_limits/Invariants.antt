@@ -1,0 +1,10 @@
+use Rattle.std.proofs.Common.{◌≡◌, length}
+use Rattle.core_sums.specs.Places.{below, each}
+use Rattle.core_report.specs.Records.{limit_weight_record}
+use Rattle.core_report.proofs.ByPlace.{at_tier}
+use Rattle.core_report.proofs.Printed.{Prints}
+use Rattle.core_report.proofs.weights.put_limits.Given as goal
+
+abbrev pub invariant-loop-place : goal.invariant-loop-place
+invariant-loop-place l =
+    Prints l.fn.out.items (each (below l.place) (at_tier l.case (length l.case.instruments) (limit_weight_record l.case l.dates l.weights))) l.out.items
