@@ -1,6 +1,5 @@
 -- A certificate that passes the check: its denominators are at least 1, and its sums stay.
-use Rattle.std.proofs.Common.{◌≡◌, arith, refl, sym, ◌∙◌, ap, ℤ, pos, ◌≤ℤ◌, int_le, true, false, List, [], ◌∷◌, ◌++◌, ◌||◌}
-use Rattle.std.specs.List.{list_all}
+use Rattle.std.proofs.Common.{◌≡◌, arith, refl, sym, ◌∙◌, ap, ℤ, pos, ◌≤ℤ◌, int_le, true, List, [], ◌∷◌, ◌++◌, ◌||◌}
 use Rattle.std.proofs.lemmas.Int.{ints}
 use Rattle.std.proofs.lemmas.List.Folds.{list_any-append}
 use Rattle.core_sums.specs.Sums.{partial_sums}

@@ -4,7 +4,7 @@ use Rattle.std.proofs.lemmas.Int.{ints}
 use Rattle.core_sums.specs.Sums.{total, partial_sums}
 use Rattle.core_sums.specs.Widths.{any_leaves, IsKept}
 use Rattle.core_wide.specs.Steps.{summed}
-use Rattle.core_wide.proofs.Adding.{sum-kept, sum-total}
+use Rattle.core_wide.proofs.Adding.{sum-kept}
 
 pub formed-some : (ns xs : List ℤ) → any_leaves (ns ++ partial_sums (pos 0) xs) ≡ false → summed (pos 0) ns xs ≡ Some (total xs)
 unfolding summed

@@ -9,4 +9,3 @@ mod Placed
 mod Passed
 mod Checked
 mod Refusing
-mod RoundedUp

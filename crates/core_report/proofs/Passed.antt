@@ -1,9 +1,9 @@
 -- What a certificate that passes the check says of its sums.
-use Rattle.std.proofs.Common.{◌≡◌, refl, sym, ◌∙◌, ap, ℕ, zero, suc, ◌<◌, ◌≤◌, ◌⊎◌, inl, inr, arith, ℤ, pos, ◌*ℤ◌, int_le, Bool, true, false, not, ◌&&◌, List, [], ◌∷◌, ◌++◌, length, map, filter, if◌then◌else◌}
+use Rattle.std.proofs.Common.{◌≡◌, refl, sym, ◌∙◌, ap, ℕ, zero, suc, ◌<◌, ◌≤◌, ◌⊎◌, inl, inr, arith, ℤ, pos, ◌*ℤ◌, int_le, Bool, true, false, true≢false, not, ◌&&◌, List, [], ◌∷◌, ◌++◌, length, map, if◌then◌else◌}
 use Rattle.std.specs.List.{list_all}
 use Rattle.std.proofs.lemmas.Bool.{and_parts, cases_Bool, cases_lt, or_parts}
 use Rattle.std.proofs.lemmas.List.Folds.{list_all-append, list_any-append}
-use Rattle.core_sums.specs.Sums.{total, partial_sums}
+use Rattle.core_sums.specs.Sums.{partial_sums}
 use Rattle.core_sums.specs.Places.{below, days_to, each}
 use Rattle.core_sums.specs.Widths.{most, leaves, any_leaves}
 use Rattle.core_sums.proofs.Joined.{each-below-more, each-filter, each-map, each-single}
@@ -12,7 +12,7 @@ use Rattle.core_sums.proofs.Lists.{days_to-below}
 use Rattle.core_book.specs.View.{CaseView, counts, limit, pool, tiers}
 use Rattle.core_model.specs.declared.condition.Condition.{Condition}
 use Rattle.core_model.specs.Closing.{Plan, IsClosingDay, IsTierNumber, is_pooled}
-use Rattle.core_model.specs.Check.{Test, Place, places_of, Verdict, Passed, Failed, Wide, verdict_of, against, plain, by_limit, by_pool_and_day, limit_test, pool_test, tier_closings, day_closings, members_of_pool, pool_terms, pool_numbers}
+use Rattle.core_model.specs.Check.{Test, Place, places_of, Verdict, Passed, Failed, Wide, verdict_of, against, plain, by_limit, by_pool_and_day, limit_test, pool_test, tier_closings, day_closings, members_of_pool, pool_terms}
 
 -- ---- the first place passes, and so do two parts of a list
 
@@ -67,10 +67,10 @@ all-of-each zero i f under e = absurd (omega (arith, under))
 all-of-each (suc n) i f under e =
     let parts = and_parts (list_all test_stays (each (below n) f)) (list_all test_stays (f n))
     (sym (ap (list_all test_stays) (each-below-more n f) ∙ list_all-append test_stays (each (below n) f) (f n)) ∙ e) in
-    split parts.0 parts.1 (cases_lt i n)
+    split (λ lower. all-of-each n i f lower parts.0) parts.1 (cases_lt i n)
   where
-    split : list_all test_stays (each (below n) f) ≡ true → list_all test_stays (f n) ≡ true → (i < n) ⊎ (n ≤ i) → list_all test_stays (f i) ≡ true
-    split before here (inl lower) = all-of-each n i f lower before
+    split : (i < n → list_all test_stays (f i) ≡ true) → list_all test_stays (f n) ≡ true → (i < n) ⊎ (n ≤ i) → list_all test_stays (f i) ≡ true
+    split before here (inl lower) = before lower
     split before here (inr high) = let same : i ≡ n = omega (arith, under, high) in ap (λ (k : ℕ). list_all test_stays (f k)) same ∙ here
 
 all-of-days : (h u : ℕ) (f : ℕ → List Test) → 1 ≤ u → u ≤ h → list_all test_stays (each (days_to h) f) ≡ true → list_all test_stays (f u) ≡ true
@@ -140,7 +140,4 @@ member-stays c a p u m stays known kept = by_test (cases_Bool (any_leaves (parti
         let all : any_leaves (each (members_of_pool c p u) sums) ≡ true =
         ap any_leaves (each-filter (is_pooled c p u) sums (below (length c.members)))
         ∙ one-of-each (length c.members) m (λ k. if is_pooled c p u k then sums k else []) known here in
-        absurd (true-false (sym all ∙ stays.members))
-
-    true-false : true ≡ false → ⊥
-    true-false e = absurd (cc)
+        absurd (true≢false (sym all ∙ stays.members))

@@ -1,10 +1,10 @@
 -- The bound of weights that refuse: without scenario weights it is the sum over lines, limits and pools.
-use Rattle.std.proofs.Common.{◌≡◌, refl, sym, ◌∙◌, ap, ℕ, suc, ◌*◌, ◌/◌, ◌%◌, arith, ℤ, pos, ◌+ℤ◌, ◌*ℤ◌, neg_ℤ, Bool, false, ◌||◌, List, [], ◌∷◌, ◌++◌, length, map, append_assoc, Option, Some, None}
+use Rattle.std.proofs.Common.{◌≡◌, sym, ◌∙◌, ap, ℕ, suc, ◌*◌, ◌/◌, ◌%◌, arith, ℤ, pos, ◌+ℤ◌, ◌*ℤ◌, neg_ℤ, false, ◌||◌, List, [], ◌∷◌, ◌++◌, length, map, append_assoc, Some}
 use Rattle.std.proofs.lemmas.Int.{ints}
 use Rattle.std.proofs.lemmas.Bool.{or_parts}
 use Rattle.std.proofs.lemmas.List.Folds.{list_any-append}
 use Rattle.std.proofs.Math.IntN.{*ℤ_comm, *ℤ-zero}
-use Rattle.core_sums.specs.Sums.{sum_below, total, partial_sums}
+use Rattle.core_sums.specs.Sums.{total, partial_sums}
 use Rattle.core_sums.specs.Places.{at, below, days_to, each}
 use Rattle.core_sums.specs.Widths.{most, leaves, any_leaves}
 use Rattle.core_sums.proofs.Joined.{each-cong, each-days, each-single}
@@ -14,7 +14,7 @@ use Rattle.core_sums.proofs.SumLaws.{sum_below-none}
 use Rattle.core_book.specs.View.{CaseView, line, limit, pool, tiers}
 use Rattle.core_model.specs.declared.cert.Weights.{Weights}
 use Rattle.core_model.specs.Bounds.{AreRefusing}
-use Rattle.core_model.specs.Check.{pairs, bound_terms, by_line, by_limit, by_pool_and_day, by_scenario_and_day}
+use Rattle.core_model.specs.Check.{bound_terms, by_line, by_limit, by_pool_and_day, by_scenario_and_day}
 use Rattle.core_model.specs.Closing.{fixed, line_count}
 use Rattle.core_model.specs.Fits.{WeightsFit}
 use Rattle.core_model.specs.Layout.{scenario_weight, limit_weight, pool_weight, full_weight, row_at_place, day_at_place, tier_at_place, pool_at_place, pool_day_at_place, limit_count, pool_count}

@@ -7,7 +7,6 @@ use Rattle.core_sums.specs.Places.{has, least_below, below, days_to, each}
 use Rattle.core_days.specs.Days.{working_dates, open_days, open_day_before}
 use Rattle.core_book.specs.View.{CaseView}
 use Rattle.core_book.specs.declared.parts.Kind.TheVariants.{Future}
-use Rattle.core_model.specs.Closing.{Plan}
 use Rattle.core_model.specs.Layout.{plan_of}
 use Rattle.core_model.proofs.WorkedCases.{numbers, crossing, deep, expiring, instrument_of, tier_of, one_position}
 use Rattle.fractions.specs.Gcd.{gcd}

@@ -1,5 +1,5 @@
 -- What a checked certificate says of the sums that its report forms again, and which dates a text can write.
-use Rattle.std.specs.Prelude.{◌≡◌, ℕ, suc, ◌<◌, ◌≤◌, ℤ, pos, ◌≤ℤ◌, List, false, true, ◌++◌, length}
+use Rattle.std.specs.Prelude.{◌≡◌, ℕ, suc, ◌<◌, ◌≤◌, pos, ◌≤ℤ◌, List, false, true, ◌++◌, length}
 use Rattle.std.specs.List.{All}
 use Rattle.jiff_core.specs.Calendar.{IsBetween}
 use Rattle.jiff_core.specs.declared.civil.date.Date.{Date}

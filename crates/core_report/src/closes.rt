@@ -28,7 +28,8 @@ fn close_start(
     requires dates { AreDates case.now dates.now }
     requires line { cell.row < line_count case.now }
     requires day { IsClosingDay case.now cell.day }
-    ensures { IfOk result (λ row. row ≡ close_fields case.now dates.now cell.day cell.row cell.tier) }
+    ensures { IfOk result (λ row. row
+        ≡ close_fields case.now dates.now cell.day cell.row cell.tier) }
 {
     let mut row = Row::start(alloc, b"close")?;
     row.push_date(dates, cell.day)?;
@@ -53,7 +54,8 @@ fn close_row(
     requires day { IsClosingDay case.now cell.day }
     requires tier { IsTierNumber case.now cell.tier }
     ensures { IfOk result (λ row. listed row
-        ≡ close_record case.now dates.now (plan_of case.now calendar.now) cell.day cell.row cell.tier) }
+        ≡ close_record case.now dates.now (plan_of case.now calendar.now)
+        cell.day cell.row cell.tier) }
 {
     let amount = calendar.amount(case, cell.row, cell.day, cell.tier);
     if amount == 0 {
@@ -98,7 +100,8 @@ pub(crate) fn limit_start(
     requires dates { AreDates case.now dates.now }
     requires instrument { cell.row < length case.now.instruments }
     requires day { IsClosingDay case.now cell.day }
-    ensures { IfOk result (λ row. row ≡ limit_fields case.now dates.now cell.day cell.row cell.tier) }
+    ensures { IfOk result (λ row. row
+        ≡ limit_fields case.now dates.now cell.day cell.row cell.tier) }
 {
     let mut row = Row::start(alloc, b"limit")?;
     row.push_date(dates, cell.day)?;
@@ -123,7 +126,8 @@ fn limit_row(
     requires day { IsClosingDay case.now cell.day }
     requires tier { IsTierNumber case.now cell.tier }
     ensures { IfOk result (λ row. listed row
-        ≡ limit_record case.now dates.now (plan_of case.now calendar.now) cell.day cell.row cell.tier) }
+        ≡ limit_record case.now dates.now (plan_of case.now calendar.now)
+        cell.day cell.row cell.tier) }
 {
     if !case.counts(cell.row, cell.day) {
         return Ok(None);

@@ -1,4 +1,4 @@
-use Rattle.std.proofs.Common.{rules, ◌≡◌, ◌++◌, ◌∙◌, ◌*◌, ◌<◌, ◌≤◌, ap, arith, ℕ}
+use Rattle.std.proofs.Common.{rules, ◌≡◌, ◌++◌, ◌∙◌, ◌*◌, ap, ℕ}
 use Rattle.core_sums.specs.Places.{below, each}
 use Rattle.core_rows.specs.Written.{rows_text}
 use Rattle.core_book.specs.View.{tiers}

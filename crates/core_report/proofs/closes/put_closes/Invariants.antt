@@ -1,4 +1,3 @@
-use Rattle.std.proofs.Common.{◌≡◌}
 use Rattle.core_sums.specs.Places.{below, each}
 use Rattle.core_model.specs.Closing.{line_count}
 use Rattle.core_model.specs.Layout.{plan_of}

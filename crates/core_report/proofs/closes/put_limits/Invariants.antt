@@ -1,4 +1,4 @@
-use Rattle.std.proofs.Common.{◌≡◌, length}
+use Rattle.std.proofs.Common.{length}
 use Rattle.core_sums.specs.Places.{below, each}
 use Rattle.core_model.specs.Layout.{plan_of}
 use Rattle.core_report.specs.Records.{limit_record}

@@ -1,4 +1,4 @@
-use Rattle.std.proofs.Common.{◌≡◌, ◌∷◌, []}
+use Rattle.std.proofs.Common.{◌∷◌, []}
 use Rattle.core_sums.specs.Places.{at, below, each}
 use Rattle.core_report.specs.Records.{ledger_record}
 use Rattle.core_report.proofs.Printed.{Prints}

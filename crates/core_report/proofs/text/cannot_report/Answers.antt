@@ -1,4 +1,5 @@
-use Rattle.std.proofs.Common.{rules, ◌∷◌, [], codes}
+use Rattle.std.proofs.Common.{rules, ◌++◌, ◌∷◌, [], List, codes}
+use Rattle.core_rows.specs.Names.{Record}
 use Rattle.core_sums.specs.Sums.{total}
 use Rattle.core_model.specs.Check.{bound_terms}
 use Rattle.core_report.specs.Records.{full_weight_records, limit_weight_records, pool_weight_records, ratio_record}
@@ -8,12 +9,27 @@ use Rattle.core_report.proofs.text.cannot_report.Goals as goal
 pub returns : goal.returns
 returns c =
     let case = c.args.case.now in
-    let dates = c.args.dates.now in
     let w = c.args.weights.now in
-    let first : Prints [] ((codes "report" ∷ codes "cannot" ∷ []) ∷ []) c.put_words.new.out.items = search rules in
-    let short : Prints c.put_words.new.out.items (ratio_record (codes "short") (total (bound_terms case w)) w.den ∷ []) c.put_ratio.new.out.items = search rules in
-    let fulls : Prints c.put_ratio.new.out.items (full_weight_records case w) c.put_fulls.new.out.items = search rules in
-    let limits : Prints c.put_fulls.new.out.items (limit_weight_records case dates w) c.put_limits.new.out.items = search rules in
-    let pools : Prints c.put_limits.new.out.items (pool_weight_records case dates w) c.put_pools.new.out.items = search rules in
-    let end : Prints c.put_pools.new.out.items ((codes "end" ∷ []) ∷ []) c.put_end.new.out.items = search rules in
-    prints-on _ _ _ _ _ (prints-on _ _ _ _ _ (prints-on _ _ _ _ _ (prints-on _ _ _ _ _ (prints-on _ _ _ _ _ first short) fulls) limits) pools) end
+    let one : List Record = (codes "report" ∷ codes "cannot" ∷ []) ∷ [] in
+    let two : List Record = ratio_record (codes "short") (total (bound_terms case w)) w.den ∷ [] in
+    let three : List Record = full_weight_records case w in
+    let four : List Record = limit_weight_records case c.args.dates.now w in
+    let five : List Record = pool_weight_records case c.args.dates.now w in
+    let six : List Record = (codes "end" ∷ []) ∷ [] in
+    let words = c.put_words.new.out.items in
+    let short = c.put_ratio.new.out.items in
+    let fulls = c.put_fulls.new.out.items in
+    let limits = c.put_limits.new.out.items in
+    let pools = c.put_pools.new.out.items in
+    let end = c.put_end.new.out.items in
+    let first : Prints [] one words = search rules in
+    let second : Prints words two short = search rules in
+    let third : Prints short three fulls = search rules in
+    let fourth : Prints fulls four limits = search rules in
+    let fifth : Prints limits five pools = search rules in
+    let sixth : Prints pools six end = search rules in
+    let to_short = prints-on [] words short one two first second in
+    let to_fulls = prints-on [] short fulls (one ++ two) three to_short third in
+    let to_limits = prints-on [] fulls limits (one ++ two ++ three) four to_fulls fourth in
+    let to_pools = prints-on [] limits pools (one ++ two ++ three ++ four) five to_limits fifth in
+    prints-on [] pools end (one ++ two ++ three ++ four ++ five) six to_pools sixth

@@ -1,10 +1,7 @@
-use Rattle.std.proofs.Common.{◌≡◌, rules, sym, ◌∙◌, ap, ℕ, ℤ, List, [], ◌∷◌, ◌++◌, length, pos, FitsSigned, Option, Some, None}
+use Rattle.std.proofs.Common.{rules, sym, ◌∙◌, ap, ℕ, ℤ, List, [], ◌∷◌, ◌++◌, length, pos, FitsSigned}
 use mir.Syntax.{w128}
 use Rattle.std.proofs.lemmas.Int.{to_z-of_z}
-use Rattle.core_sums.specs.Sums.{total}
-use Rattle.core_model.specs.Check.{bound_terms}
 use Rattle.core_model.specs.Closing.{line_count}
-use Rattle.core_wide.specs.Steps.{summed}
 use Rattle.core_wide.proofs.Adding.{part-on, part-ends}
 use Rattle.core_wide.proofs.Stepping.{sum_to}
 use Rattle.core_report.proofs.Refusing.{bound-formed, line_term, listed_to, pool_term, tier_term}

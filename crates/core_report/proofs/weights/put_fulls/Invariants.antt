@@ -1,4 +1,3 @@
-use Rattle.std.proofs.Common.{◌≡◌}
 use Rattle.core_sums.specs.Places.{below, each}
 use Rattle.core_report.specs.Records.{full_weight_record}
 use Rattle.core_report.proofs.Printed.{Prints}
