@@ -9,7 +9,9 @@ ghost use Rattle.core_model.specs.Layout.{plan_of};
 ghost use Rattle.core_model.specs.Shows.{Shows};
 ghost use Rattle.core_model.specs.declared.cert.Cert.TheVariants.{Cannot};
 ghost use Rattle.core_cert.specs.Written.{is_plain_word};
-ghost use Rattle.core_report.specs.Records.{cannot_records, loss_records, ratio_record, rounded_up};
+ghost use Rattle.core_replay.specs.Answers.{IsLedger, IsWorstLoss};
+ghost use Rattle.core_report.specs.Ranking.{AreTop};
+ghost use Rattle.core_report.specs.Records.{cannot_records, closes_records, loss_records, ratio_record, rounded_up};
 ghost use Rattle.core_report.specs.Report.{AreDates, IsCannotReport, IsClosesReport, IsReport, StopsClosing, StopsReport};
 ghost use Rattle.core_report.specs.Stays.{BoundStays, ClosingsStay};
 
@@ -18,11 +20,11 @@ use crate::dates::Dates;
 use crate::fault::ReportFault;
 use crate::ledger::put_ledger;
 use crate::row::{Row, put};
-use crate::top::{greatest, listed, losses, put_top};
+use crate::top::{Loss, greatest, losses, put_top};
 use crate::weights;
 use core_book::Case;
 use core_model::{Calendar, Cert, Weights};
-use core_replay::{replay, worst};
+use core_replay::{Ledger, WorstLoss, replay, worst};
 use std::alloc::{AllocError, Global};
 
 /// A number that is not negative over a denominator, rounded up to a whole number.
@@ -135,6 +137,39 @@ pub fn report_refusal(alloc: Global, case: &Case, weights: &Weights) -> Result<V
     cannot_report(alloc, case, &dates, weights)
 }
 
+/// The records of a calendar's report, with its worst loss, the ledger of that scenario and its greatest losses.
+fn closes_text(
+    alloc: Global,
+    case: &Case,
+    dates: &Dates,
+    calendar: &Calendar,
+    worst: WorstLoss,
+    ledger: &Ledger,
+    top: &[Loss],
+) -> Result<Vec<u8>, AllocError>
+    requires kept { IsCase case.now }
+    requires dates { AreDates case.now dates.now }
+    requires fits { CalendarFits case.now calendar.now }
+    requires stays { ClosingsStay case.now (plan_of case.now calendar.now) }
+    requires worst { IsWorstLoss case.now (plan_of case.now calendar.now) worst }
+    requires ledger { IsLedger
+        case.now (plan_of case.now calendar.now) worst.scenario ledger.now }
+    requires top { AreTop case.now (plan_of case.now calendar.now) top.now }
+    ensures { IfOk result (λ text. text.items ≡ rows_text (closes_records
+        case.now dates.now (plan_of case.now calendar.now) worst.scenario top.now)) }
+{
+    let mut out = Vec::new(alloc);
+    put_words(alloc, &mut out, b"report", b"closes")?;
+    put_loss(alloc, &mut out, worst.loss, calendar.den)?;
+    put_closes(alloc, &mut out, case, dates, calendar)?;
+    put_limits(alloc, &mut out, case, dates, calendar)?;
+    put_pools(alloc, &mut out, case, dates, calendar)?;
+    put_ledger(alloc, &mut out, case, dates, ledger, worst.scenario)?;
+    put_top(alloc, &mut out, case, dates, calendar, top)?;
+    put_end(alloc, &mut out)?;
+    Ok(out)
+}
+
 /// The report of a calendar.
 fn closes_report(
     alloc: Global,
@@ -152,18 +187,9 @@ fn closes_report(
 {
     let worst = worst(alloc, case, calendar)?;
     let ledger = replay(alloc, case, calendar, worst.scenario)?;
-    let losses = losses(alloc, case, calendar)?;
-    let top = listed(alloc, greatest(alloc, &losses)?)?;
-    let mut out = Vec::new(alloc);
-    put_words(alloc, &mut out, b"report", b"closes")?;
-    put_loss(alloc, &mut out, worst.loss, calendar.den)?;
-    put_closes(alloc, &mut out, case, dates, calendar)?;
-    put_limits(alloc, &mut out, case, dates, calendar)?;
-    put_pools(alloc, &mut out, case, dates, calendar)?;
-    put_ledger(alloc, &mut out, case, dates, &ledger, worst.scenario)?;
-    put_top(alloc, &mut out, case, dates, calendar.den, &top)?;
-    put_end(alloc, &mut out)?;
-    Ok(out)
+    let top = greatest(alloc, losses(alloc, case, calendar)?)?;
+    let text = closes_text(alloc, case, dates, calendar, worst, &ledger, &top)?;
+    Ok(text)
 }
 
 /// The text of the report of a certificate that the check accepts: records of fields joined by commas, each ended by a
@@ -188,6 +214,8 @@ pub fn report(alloc: Global, case: &Case, cert: &Cert) -> Result<Vec<u8>, Report
     ensures text { IfOk result (λ text. IsReport case.now cert.now text.items) }
     ensures stops { IfErr result (StopsReport case.now cert.now) }
 {
+    // Every case keeps the bounds that the places of a certificate stand on.
+    let _kept = case.horizon();
     let dates = Dates::of_case(alloc, case)?;
     match cert {
         Cert::Closes { calendar, .. } => closes_report(alloc, case, &dates, calendar),

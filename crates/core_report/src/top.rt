@@ -4,7 +4,6 @@ ghost use Rattle.std.proofs.Common.{rules};
 ghost use Rattle.std.specs.Cmp.{partial_order_from_own_ties};
 ghost use Rattle.std.specs.Cmp.Rules.{comparing};
 ghost use Rattle.std.specs.Ordering.{int_cmp, nat_cmp, on, flip_args, then_cmp, as_partial_cmp};
-ghost use Rattle.std.specs.Vec.Iter.{into_iter_items};
 ghost use Rattle.itertools.specs.Extremes.{IsKLeast, by_cmp};
 ghost use Rattle.core_sums.specs.Places.{at};
 ghost use Rattle.core_rows.specs.Written.{rows_text};
@@ -27,7 +26,6 @@ use core_replay::{Ledger, replay};
 use itertools::Itertools;
 use std::alloc::{AllocError, Global};
 use std::cmp::Ordering;
-use std::vec::IntoIter;
 
 /// The loss of a scenario, from 0, on a house day, as a numerator over the calendar's denominator. The greater loss
 /// comes first, and of equal ones that of the earlier scenario, and in it that of the earlier day.
@@ -121,18 +119,11 @@ pub(crate) fn losses(
 }
 
 /// The greatest of some losses, the greatest first.
-pub(crate) fn greatest(alloc: Global, losses: &[Loss]) -> Result<IntoIter<Loss>, AllocError>
+pub(crate) fn greatest(alloc: Global, losses: Vec<Loss>) -> Result<Vec<Loss>, AllocError>
     ensures { IfOk result (λ top.
-        IsKLeast (by_cmp ⟦<Loss as Ord>⟧.cmp) 5 losses.now (into_iter_items top)) }
+        IsKLeast (by_cmp ⟦<Loss as Ord>⟧.cmp) 5 losses.items top.items) }
 {
-    losses.iter().copied().k_smallest(alloc, 5)
-}
-
-/// Some losses as a list.
-pub(crate) fn listed(alloc: Global, top: IntoIter<Loss>) -> Result<Vec<Loss>, AllocError>
-    ensures { IfOk result (λ list. list.items ≡ into_iter_items top) }
-{
-    top.collect(alloc)
+    losses.into_iter().k_smallest(alloc, 5)?.collect(alloc)
 }
 
 /// A loss of a rank from 1.
@@ -157,24 +148,24 @@ fn top_row(
     Ok(row)
 }
 
-/// Prints losses by rank.
+/// Prints losses of a calendar by rank.
 pub(crate) fn put_top(
     alloc: Global,
     out: &mut Vec<u8>,
     case: &Case,
     dates: &Dates,
-    den: i128,
+    calendar: &Calendar,
     top: &[Loss],
 ) -> Result<(), AllocError>
     requires dates { AreDates case.now dates.now }
-    requires den { pos 1 ≤ℤ den }
+    requires den { pos 1 ≤ℤ calendar.now.den }
     requires few { length top.now ≤ 5 }
     requires placed { (n : ℕ) → n < length top.now → IsPlaced case.now (loss_at top.now n) }
-    ensures { OnOk result (out.new.items
-        ≡ out.old.items ++ rows_text (top_records case.now dates.now den top.now)) }
+    ensures { OnOk result (out.new.items ≡ out.old.items
+        ++ rows_text (top_records case.now dates.now calendar.now.den top.now)) }
 {
     for n in 0..top.len() {
-        let row = top_row(alloc, case, dates, den, n + 1, top[n])?;
+        let row = top_row(alloc, case, dates, calendar.den, n + 1, top[n])?;
         put(alloc, out, &row)?;
     }
     Ok(())
