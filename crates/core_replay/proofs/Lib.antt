@@ -2,8 +2,8 @@ mod Sizes
 mod LineFlows
 mod Dues
 mod Costs
-mod Totals
+pub mod Totals
 mod Standing
 mod Running
-mod FirstWorst
+pub mod FirstWorst
 mod Rows

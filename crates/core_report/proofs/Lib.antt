@@ -9,3 +9,5 @@ mod Placed
 mod Passed
 mod Checked
 mod Refusing
+mod Replayed
+mod Ranked

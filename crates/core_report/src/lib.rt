@@ -15,5 +15,5 @@ mod top;
 mod weights;
 
 pub use fault::ReportFault;
-pub use text::report_refusal;
+pub use text::{report, report_refusal};
 pub use top::Loss;

@@ -1,21 +1,30 @@
 // The report of a certificate.
-ghost use Rattle.std.specs.Prelude.{◌≡◌, ◌≤ℤ◌, ◌++◌, ◌∷◌, [], codes, pos, IsTrue, OnOk, IfOk};
+ghost use Rattle.std.specs.Prelude.{◌≡◌, ◌≤ℤ◌, ◌++◌, ◌∷◌, [], codes, pos, IsTrue, OnOk, IfOk, IfErr};
 ghost use Rattle.core_rows.specs.Written.{rows_text};
 ghost use Rattle.core_book.specs.Kept.{IsCase};
 ghost use Rattle.core_model.specs.Bounds.{AreRefusing};
 ghost use Rattle.core_model.specs.Check.{verdict, Passed};
-ghost use Rattle.core_model.specs.Fits.{IsKept, WeightsFit};
+ghost use Rattle.core_model.specs.Fits.{CalendarFits, Fits, IsKept, WeightsFit};
+ghost use Rattle.core_model.specs.Layout.{plan_of};
+ghost use Rattle.core_model.specs.Shows.{Shows};
 ghost use Rattle.core_model.specs.declared.cert.Cert.TheVariants.{Cannot};
 ghost use Rattle.core_cert.specs.Written.{is_plain_word};
-ghost use Rattle.core_report.specs.Records.{cannot_records, loss_records, ratio_record, rounded_up};
-ghost use Rattle.core_report.specs.Report.{AreDates, IsCannotReport};
-ghost use Rattle.core_report.specs.Stays.{BoundStays};
+ghost use Rattle.core_replay.specs.Answers.{IsLedger, IsWorstLoss};
+ghost use Rattle.core_report.specs.Ranking.{AreTop};
+ghost use Rattle.core_report.specs.Records.{cannot_records, closes_records, loss_records, ratio_record, rounded_up};
+ghost use Rattle.core_report.specs.Report.{AreDates, IsCannotReport, IsClosesReport, IsReport, StopsClosing, StopsReport};
+ghost use Rattle.core_report.specs.Stays.{BoundStays, ClosingsStay};
 
+use crate::closes::{put_closes, put_limits, put_pools};
 use crate::dates::Dates;
+use crate::fault::ReportFault;
+use crate::ledger::put_ledger;
 use crate::row::{Row, put};
+use crate::top::{Loss, greatest, losses, put_top};
 use crate::weights;
 use core_book::Case;
-use core_model::Weights;
+use core_model::{Calendar, Cert, Weights};
+use core_replay::{Ledger, WorstLoss, replay, worst};
 use std::alloc::{AllocError, Global};
 
 /// A number that is not negative over a denominator, rounded up to a whole number.
@@ -126,4 +135,90 @@ pub fn report_refusal(alloc: Global, case: &Case, weights: &Weights) -> Result<V
     let _kept = case.horizon();
     let dates = Dates::of_case(alloc, case)?;
     cannot_report(alloc, case, &dates, weights)
+}
+
+/// The records of a calendar's report, with its worst loss, the ledger of that scenario and its greatest losses.
+fn closes_text(
+    alloc: Global,
+    case: &Case,
+    dates: &Dates,
+    calendar: &Calendar,
+    worst: WorstLoss,
+    ledger: &Ledger,
+    top: &[Loss],
+) -> Result<Vec<u8>, AllocError>
+    requires kept { IsCase case.now }
+    requires dates { AreDates case.now dates.now }
+    requires fits { CalendarFits case.now calendar.now }
+    requires stays { ClosingsStay case.now (plan_of case.now calendar.now) }
+    requires worst { IsWorstLoss case.now (plan_of case.now calendar.now) worst }
+    requires ledger { IsLedger
+        case.now (plan_of case.now calendar.now) worst.scenario ledger.now }
+    requires top { AreTop case.now (plan_of case.now calendar.now) top.now }
+    ensures { IfOk result (λ text. text.items ≡ rows_text (closes_records
+        case.now dates.now (plan_of case.now calendar.now) worst.scenario top.now)) }
+{
+    let mut out = Vec::new(alloc);
+    put_words(alloc, &mut out, b"report", b"closes")?;
+    put_loss(alloc, &mut out, worst.loss, calendar.den)?;
+    put_closes(alloc, &mut out, case, dates, calendar)?;
+    put_limits(alloc, &mut out, case, dates, calendar)?;
+    put_pools(alloc, &mut out, case, dates, calendar)?;
+    put_ledger(alloc, &mut out, case, dates, ledger, worst.scenario)?;
+    put_top(alloc, &mut out, case, dates, calendar, top)?;
+    put_end(alloc, &mut out)?;
+    Ok(out)
+}
+
+/// The report of a calendar.
+fn closes_report(
+    alloc: Global,
+    case: &Case,
+    dates: &Dates,
+    calendar: &Calendar,
+) -> Result<Vec<u8>, ReportFault>
+    requires kept { IsCase case.now }
+    requires dates { AreDates case.now dates.now }
+    requires fits { CalendarFits case.now calendar.now }
+    requires stays { ClosingsStay case.now (plan_of case.now calendar.now) }
+    ensures text { IfOk result (λ text.
+        IsClosesReport case.now (plan_of case.now calendar.now) text.items) }
+    ensures stops { IfErr result (StopsClosing case.now (plan_of case.now calendar.now)) }
+{
+    let worst = worst(alloc, case, calendar)?;
+    let ledger = replay(alloc, case, calendar, worst.scenario)?;
+    let top = greatest(alloc, losses(alloc, case, calendar)?)?;
+    let text = closes_text(alloc, case, dates, calendar, worst, &ledger, &top)?;
+    Ok(text)
+}
+
+/// The text of the report of a certificate that the check accepts: records of fields joined by commas, each ended by a
+/// line feed. Fractions are two fields in lowest terms, and 0 is 0 over 1.
+///
+/// Of a calendar there are: its loss, the margin, which is the loss floored at nought, and the charge, which is the
+/// margin rounded up; what is closed that is not 0, by day, line and tier; what is closed of the instruments, with the
+/// limit, by day, instrument and tier, and the weighted closings of the pools, with the cap, by day and pool, where
+/// closings on an expiry do not count; the ledger of the first scenario that has the worst loss, by house day: what is
+/// paid, and the cash; and the five greatest losses, or all where there are fewer, of equal ones that of the earlier
+/// scenario first, then that of the earlier day. Tiers are named where an instrument of the case has more than one.
+///
+/// Of weights that refuse there are: by how much the book is short, which is their bound, and then the weights that are
+/// not 0: by line, by day, instrument and tier, and by day and pool, all over the weights' denominator.
+///
+/// The answer is `TooWide` only of a calendar, with the first scenario and in it the first day whose replay meets a number
+/// above 2^127 - 1 in absolute value.
+pub fn report(alloc: Global, case: &Case, cert: &Cert) -> Result<Vec<u8>, ReportFault>
+    requires fits { Fits case.now cert.now }
+    requires passed { verdict case.now cert.now ≡ Passed }
+    requires shows { Shows case.now cert.now }
+    ensures text { IfOk result (λ text. IsReport case.now cert.now text.items) }
+    ensures stops { IfErr result (StopsReport case.now cert.now) }
+{
+    // Every case keeps the bounds that the places of a certificate stand on.
+    let _kept = case.horizon();
+    let dates = Dates::of_case(alloc, case)?;
+    match cert {
+        Cert::Closes { calendar, .. } => closes_report(alloc, case, &dates, calendar),
+        Cert::Cannot { weights } => Ok(cannot_report(alloc, case, &dates, weights)?),
+    }
 }

@@ -15,4 +15,6 @@ mod programme;
 #[cfg(test)]
 mod replay;
 #[cfg(test)]
+mod report;
+#[cfg(test)]
 mod top;
