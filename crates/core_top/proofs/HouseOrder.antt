@@ -1,5 +1,5 @@
 -- The order of the kinds in which the variables are numbered, and the rule of the least variable.
-use Rattle.std.proofs.Common.{◌≡◌, refl, sym, subst, ap, ℕ, ◌+◌, ◌^◌, ◌≤◌, ◌↔◌, ◌⊎◌, inl, inr, List, length, arith, Bool, true, false, if◌then◌else◌, Option, Some, None}
+use Rattle.std.proofs.Common.{◌≡◌, refl, subst, ℕ, ◌+◌, ◌^◌, ◌≤◌, inl, inr, List, arith, Bool, true, false, if◌then◌else◌, Option, Some, None}
 use Rattle.std.specs.Option.{option_or, option_map, option_zip}
 use Rattle.std.proofs.lemmas.List.{length-map}
 use Rattle.core_sums.specs.Widths.{most}
@@ -9,7 +9,7 @@ use Rattle.core_case.specs.Stated.{case_of_bytes}
 use Rattle.core_rules.specs.Candidates.{lower_variable}
 use Rattle.core_run.specs.Run.{run, turn_at}
 use Rattle.core_run.specs.Laws.{BudgetIsEnough}
-use Rattle.core_lp.specs.CaseProgramme.{columns, row_names, row_of}
+use Rattle.core_lp.specs.CaseProgramme.{row_names, row_of}
 use Rattle.core_lp.specs.Ranks.{variable_count, as_numbered}
 use Rattle.core_margin.specs.Last.{start_of, IsReached}
 use Rattle.core_margin.specs.Outcomes.{MarginOutcome, Certificate, Common, Pivot, Spent, MarginComesTo}
@@ -17,7 +17,7 @@ use Rattle.core_margin.specs.Laws.{RunReaches, HouseOrderIsLeast}
 use Rattle.core_top.specs.declared.answers.File.TheVariants as files
 use Rattle.core_top.specs.Words.{is_name}
 use Rattle.core_top.specs.Orders.{RuleWord, LeastVariable, Kinds, preference}
-use Rattle.core_top.specs.Margin.{MarginWords, words_with, budget_of, Comes, MarginOf, certified, wide_pivot, wide_common, spent, MarginDue, GoesByNumber, IsNeverSpent}
+use Rattle.core_top.specs.Margin.{MarginWords, words_with, budget_of, MarginOf, certified, wide_pivot, wide_common, spent, MarginDue, GoesByNumber, IsNeverSpent}
 use Rattle.core_top.specs.Commands.{Command, Margin, IsDue}
 use Rattle.core_top.specs.Headline.{HouseOrderIsDue}
 use Rattle.core_top.proofs.AtFile.{at-file}

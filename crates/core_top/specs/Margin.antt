@@ -1,5 +1,5 @@
 -- `margin CASE`, `margin CASE BUDGET`, `margin CASE BUDGET RULE`: the words, what is due, and what the answers show.
-use Rattle.std.specs.Prelude.{◌≡◌, ◌≢◌, ◌↔◌, ◌⊎◌, ℕ, ◌^◌, ◌≤◌, List, [], ◌∷◌, length, codes, ℤ, pos, ◌&&◌, if◌then◌else◌, Option, Some, None, Ok}
+use Rattle.std.specs.Prelude.{◌≡◌, ◌≢◌, ◌⊎◌, ℕ, ◌^◌, ◌≤◌, List, [], ◌∷◌, length, codes, ℤ, pos, ◌&&◌, if◌then◌else◌, Option, Some, None, Ok}
 use Rattle.std.specs.Option.{option_map, option_zip}
 use Rattle.std.specs.Str.{bytes_eq}
 use Rattle.core_rows.specs.Fields.{whole}
