@@ -1,5 +1,5 @@
 -- The greatest losses of a calendar are losses of its scenarios and house days.
-use Rattle.std.proofs.Common.{◌≡◌, sym, arith, ℕ, zero, suc, ◌+◌, ◌<◌, ◌≤◌, List, [], ◌∷◌, ◌++◌, get_or, length, subst}
+use Rattle.std.proofs.Common.{◌≡◌, sym, arith, ℕ, zero, suc, ◌<◌, ◌≤◌, List, [], ◌∷◌, ◌++◌, get_or, length, subst}
 use Rattle.std.specs.List.{All}
 use Rattle.std.proofs.lemmas.List.Elements.{All-append, All-get_or, All-nil, All-push}
 use Rattle.std.proofs.lemmas.List.{get_or_append_left, length-append}

@@ -1,4 +1,4 @@
-use Rattle.std.proofs.Common.{◌≡◌, ◌∷◌, [], suc}
+use Rattle.std.proofs.Common.{◌∷◌, [], suc}
 use Rattle.core_sums.specs.Places.{below, each}
 use Rattle.core_report.specs.Records.{loss_at, top_record}
 use Rattle.core_report.proofs.Printed.{Prints}
