@@ -170,8 +170,3 @@ few-holidays b m v kept within e =
     let row : row_at (book_view b).holidays m ≡ map epoch_day v.items = get_or-map (λ v. map epoch_day v.items) b.holidays.items m v [] within ∙ ap (λ v. map epoch_day v.items) (sym e) in
     let few : length (row_at (book_view b).holidays m) ≤ 400 = (kept.holidays.2 m [] listed).0 in
     omega (arith, few, ap length row, length-map v.items epoch_day)
-
--- a list of dates has a date where its day numbers have one
-pub any-dates : (vs : List (Vec Date Global)) → list_any (λ hs. not (length hs == 0)) (map (λ v. map epoch_day v.items) vs) ≡ list_any (λ v. not (length v.items == 0)) vs
-any-dates [] = refl
-any-dates (v ∷ vs) = rw (length-map v.items epoch_day, any-dates vs) refl

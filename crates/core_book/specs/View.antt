@@ -132,10 +132,3 @@ takes c i u j =
 -- whether a line may be closed on day u in tier j
 abbrev pub is_allowed : CaseView → ℕ → ℕ → ℕ → Bool
 is_allowed c l u j = takes c (instrument_of c l) u j
-
--- whether a market has a holiday, and whether a day has fixed cash
-abbrev pub has_holidays : CaseView → Bool
-has_holidays c = list_any (λ hs. not (length hs == 0)) c.holidays
-
-abbrev pub has_cash : CaseView → Bool
-has_cash c = list_any (λ n. not (int_eq n (pos 0))) c.cash

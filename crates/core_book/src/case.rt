@@ -52,13 +52,6 @@ fn deepest(depth: &[Vec<Tier>]) -> usize
     depth.iter().fold(1, |most, tiers| most.max(tiers.len()))
 }
 
-/// Whether one of some lists has a date.
-fn has_dates(lists: &[Vec<Date>]) -> bool
-    ensures { result ≡ list_any (λ dates. not (length dates.items == 0)) lists.now }
-{
-    lists.iter().any(|dates| dates.len() != 0)
-}
-
 /// Whether each market is open, by market and house day.
 fn open_days(
     alloc: Global,
@@ -81,7 +74,7 @@ impl Case {
     ghost use Rattle.core_days.specs.Flags.{flag_at};
     ghost use Rattle.core_book.specs.Kept.{IsCase};
     ghost use Rattle.core_sums.specs.Places.{row_at};
-    ghost use Rattle.core_book.specs.View.{instrument, line, pool, member, tiers, tiers_of, cost, limit, price, cash, date, is_open, pays, counts, is_traded, is_allowed, instrument_of, has_holidays, has_cash};
+    ghost use Rattle.core_book.specs.View.{instrument, line, pool, member, tiers, tiers_of, cost, limit, price, cash, date, is_open, pays, counts, is_traded, is_allowed, instrument_of};
     ghost use Rattle.std.specs.Prelude.{IfOk};
     ghost use Rattle.jiff.specs.Words.{epoch_day};
     ghost use Rattle.core_book.specs.Inside.{book_view};
@@ -124,20 +117,6 @@ impl Case {
         ensures { epoch_day result ≡ date self.now t }
     {
         self.days[t as usize]
-    }
-
-    /// How many markets there are, the house among them.
-    pub fn markets(&self) -> usize
-        ensures { result ≡ length self.now.holidays }
-    {
-        self.book.holidays.len()
-    }
-
-    /// Whether a market has a holiday.
-    pub fn has_holidays(&self) -> bool
-        ensures { result ≡ has_holidays self.now }
-    {
-        has_dates(&self.book.holidays)
     }
 
     /// How many instruments there are.
@@ -355,12 +334,5 @@ impl Case {
         ensures { result ≡ cash self.now t }
     {
         self.book.cash[t as usize]
-    }
-
-    /// Whether a house day has fixed cash.
-    pub fn has_cash(&self) -> bool
-        ensures { result ≡ has_cash self.now }
-    {
-        self.book.cash.iter().any(|amount| *amount != 0)
     }
 }

@@ -13,6 +13,7 @@ use Rattle.core_book.specs.View.{CaseView}
 use Rattle.core_model.specs.Layout.{scenario_count}
 use Rattle.core_model.specs.declared.cert.Cert as certs
 use Rattle.core_model.specs.declared.cert.Cert.TheVariants as certs_of
+use Rattle.core_model.specs.Fits.{IsPlainlyRefusing}
 use Rattle.core_cert.specs.declared.kinds.RecordKind.{RecordKind}
 use Rattle.core_cert.specs.declared.kinds.RecordKind.TheVariants.{Cert, Closes, Cannot, Amount, Loss, Margin, Weights, Scenario, Limit, Pool, Full, End}
 use Rattle.core_cert.specs.declared.faults.RecordFault.{RecordFault}
@@ -21,7 +22,6 @@ use Rattle.core_cert.specs.Kinds.{followers, forms, is_kind, kind_of, word_of}
 use Rattle.core_cert.specs.Faults.{Faulty, case_fault, end_before, fault_of, fields_fault, first_fault, first_fault_after, is_follower, is_refusing, kind_step, last_record, later_fault, order_step, place_in}
 use Rattle.core_rows.specs.Steps.{fault_unless, first_of}
 use Rattle.core_cert.specs.Stated.{calendar_stated, cert_of, cert_of_records, cert_unless, last_number, number_at, numbers_of, weights_stated}
-use Rattle.core_cert.specs.Written.{IsPlainlyRefusing}
 use Rattle.core_rows.proofs.FirstStep.{holds-from_none}
 use Rattle.core_cert.proofs.RoundTripOrder.{HasKind, kind-is, kind_of-word, same_kind}
 use Rattle.core_cert.proofs.RoundTripSound.{after_fault, last-put}

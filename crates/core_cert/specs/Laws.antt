@@ -3,8 +3,8 @@ use Rattle.std.specs.Prelude.{◌≡◌, Ok}
 use Rattle.core_book.specs.View.{CaseView}
 use Rattle.core_book.specs.Kept.{IsCase}
 use Rattle.core_model.specs.declared.cert.Cert.{Cert}
-use Rattle.core_model.specs.Fits.{Fits}
-use Rattle.core_cert.specs.Written.{cert_text, IsPlainlyRefusing}
+use Rattle.core_model.specs.Fits.{Fits, IsPlainlyRefusing}
+use Rattle.core_cert.specs.Written.{cert_text}
 use Rattle.core_cert.specs.Stated.{cert_of_bytes}
 
 -- The text of a certificate that fits its case is read as this certificate.

@@ -162,8 +162,3 @@ cert_text c cert = rows_text (cert_records c cert)
 -- the greatest size of a certificate's text, in bytes
 abbrev pub most_bytes : ℕ
 most_bytes = 4194304
-
--- A certificate that refuses has no scenario weight, since its text has no record of one.
-abbrev pub IsPlainlyRefusing : Cert → Type 0
-IsPlainlyRefusing (Closes calendar loss weights) = Unit {0}
-IsPlainlyRefusing (Cannot weights) = All (λ z. z ≡ pos 0) weights.scenario

@@ -1,11 +1,10 @@
 // Reading a certificate.
 ghost use Rattle.std.specs.Prelude.{◌≡◌, ◌≤◌, ◌<◌, ◌^◌, None, Ok, length, IfOk, IfErr};
-ghost use Rattle.core_model.specs.Fits.{Fits};
+ghost use Rattle.core_model.specs.Fits.{Fits, IsPlainlyRefusing};
 ghost use Rattle.core_cert.specs.Codes.{code_of};
 ghost use Rattle.core_cert.specs.Faults.{first_fault, missing_end};
 ghost use Rattle.core_cert.specs.Refusals.{IsFault, RefusesBytes, RefusesRecords};
 ghost use Rattle.core_cert.specs.Stated.{cert_of_bytes, cert_of_records};
-ghost use Rattle.core_cert.specs.Written.{IsPlainlyRefusing};
 ghost use Rattle.core_cert.specs.declared.read.CertFault.TheVariants.{Bad};
 
 use crate::faults::RecordFault;

@@ -1,10 +1,10 @@
 // The text of a certificate, kind by kind.
 ghost use Rattle.std.specs.Prelude.{◌≡◌, ◌<◌, ◌≤◌, ◌++◌, OnOk, IfOk, length};
 ghost use Rattle.core_rows.specs.Written.{rows_text};
-ghost use Rattle.core_model.specs.Fits.{CalendarFits, Fits, IsKept, WeightsFit};
+ghost use Rattle.core_model.specs.Fits.{CalendarFits, Fits, IsKept, WeightsFit, IsPlainlyRefusing};
 ghost use Rattle.core_model.specs.Closing.{IsClosingDay};
 ghost use Rattle.core_model.specs.Layout.{plan_of};
-ghost use Rattle.core_cert.specs.Written.{amount_records, cert_text, closing_records, constraint_records, day_amounts, day_limits, full_records, instrument_limits, limit_records, line_amounts, most_bytes, pool_days, pool_records, refusing_records, scenario_days, scenario_records, IsPlainlyRefusing};
+ghost use Rattle.core_cert.specs.Written.{amount_records, cert_text, closing_records, constraint_records, day_amounts, day_limits, full_records, instrument_limits, limit_records, line_amounts, most_bytes, pool_days, pool_records, refusing_records, scenario_days, scenario_records};
 
 use crate::record::{put_amount, put_day, put_first, put_full, put_limit, put_number, put_word};
 use core_book::Case;

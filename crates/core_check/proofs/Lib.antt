@@ -7,7 +7,7 @@ pub mod Weak
 pub mod Least
 mod Passing
 mod PassingLists
-mod Totals
+pub mod Totals
 mod Holding
 mod Valid
 pub mod Showing

@@ -1,5 +1,5 @@
 mod Rows
-pub mod Opens
+mod Opens
 pub mod PayDays
 mod Counted
 mod Working

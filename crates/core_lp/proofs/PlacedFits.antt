@@ -15,7 +15,7 @@ use Rattle.core_model.specs.Layout.{scenario_at_place, house_day_at_place}
 use Rattle.core_model.specs.declared.cert.Weights.{Weights}
 use Rattle.core_model.specs.declared.cert.Cert.TheVariants.{Closes}
 use Rattle.core_lp.specs.Placing.{calendar_placed, dual_weights, closes_placed}
-use Rattle.core_model.specs.Fits.{Fits, AreKept, WeightsFit}
+use Rattle.core_model.specs.Fits.{Fits, AreKept, WeightsFit, IsPlainlyRefusing}
 use Rattle.core_lp.specs.declared.certificate.Parts.{Parts}
 use Rattle.core_lp.specs.declared.certificate.Parts.TheVariants as parts
 use Rattle.core_lp.specs.declared.names.Col.TheVariants as col
@@ -25,7 +25,7 @@ use Rattle.core_lp.specs.ByName.{same_col}
 use Rattle.core_lp.specs.Placing.{by_place, of_row, full_placed, scenario_placed, weights_placed}
 use Rattle.core_lp.specs.Placing.{loss_placed}
 use Rattle.core_lp.specs.Placing.{Numerators, LossLeaves, Difference, numerators_of, placed}
-use Rattle.core_lp.specs.Placing.{PlacedLeaves, ArePartsOf, ArePositive, HasNoScenario}
+use Rattle.core_lp.specs.Placing.{PlacedLeaves, ArePartsOf, ArePositive}
 use Rattle.core_lp.specs.Walked.{IsWeight}
 use Rattle.core_lp.proofs.Fills.{by_place-length, by_place-all, beside-all}
 use Rattle.core_lp.proofs.Placed.{at-all, nought-kept, nought-weight, row-weight, less-kept}
@@ -103,7 +103,7 @@ placed-fits c (parts.Cannot farkas) h stays =
     (λ k t. nought-kept)
 
 -- no scenario has a weight where there is none
-pub placed-refuses : (c : CaseView) (x : Parts) → HasNoScenario (placed c x)
+pub placed-refuses : (c : CaseView) (x : Parts) → IsPlainlyRefusing (placed c x)
 placed-refuses c (parts.Optimal primal duals) = tt
 placed-refuses c (parts.Cannot farkas) = by_place-all (λ z. z ≡ pos 0) (scenario_count c)
     (λ n. pos 0) (λ n. refl)

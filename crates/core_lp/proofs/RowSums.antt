@@ -10,12 +10,13 @@ use Rattle.core_sums.proofs.SumLaws.{sum_below-cong, sum_below-first}
 use Rattle.core_book.specs.View.{CaseView, line, tiers}
 use Rattle.core_model.specs.Closing.{line_count, sum_tiers}
 use Rattle.core_model.specs.Bounds.{sum_limits, sum_pools}
+use Rattle.core_check.proofs.Totals.{total-days}
 use Rattle.core_lp.specs.declared.names.RowName.{RowName}
 use Rattle.core_lp.specs.declared.names.RowName.TheVariants as row
 use Rattle.core_lp.specs.CaseProgramme.{is_position, full_rows, back_rows, limit_rows, pool_rows}
 use Rattle.core_lp.specs.CaseProgramme.{loss_rows, row_names}
 use Rattle.core_lp.specs.Placing.{of_row}
-use Rattle.core_lp.proofs.Totals.{map-map, total-days, total-each_below, total-each_days}
+use Rattle.core_lp.proofs.Totals.{map-map, total-each_below, total-each_days}
 use Rattle.core_lp.proofs.RowNumbers.{over_rows}
 use Rattle.core_lp.proofs.RowNames.{tier_rows, instrument_rows, of_row-at}
 

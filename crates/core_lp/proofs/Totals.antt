@@ -6,10 +6,11 @@ use Rattle.std.proofs.lemmas.Int.{ints}
 use Rattle.std.proofs.lemmas.List.{map-append}
 use Rattle.core_sums.specs.Sums.{sum_below, sum_days, total}
 use Rattle.core_sums.specs.Places.{at, below, days_to, each}
-use Rattle.core_sums.proofs.Lists.{days_to-below, total-append, total-below, total-each, total-filter}
+use Rattle.core_sums.proofs.Lists.{total-append, total-below, total-each, total-filter}
 use Rattle.core_sums.proofs.SumLaws.{sum_below-cong, sum_below-first}
 use Rattle.core_book.specs.View.{CaseView, tiers, is_allowed}
 use Rattle.core_model.specs.Closing.{line_count, sum_tiers}
+use Rattle.core_check.proofs.Totals.{total-days}
 use Rattle.core_lp.specs.declared.names.Col.{Col}
 use Rattle.core_lp.specs.declared.names.Col.TheVariants as col
 use Rattle.core_lp.specs.CaseProgramme.{columns, line_columns, day_columns}
@@ -24,11 +25,6 @@ map-each : {A B C : Type 0} (f : B → C) (xs : List A) (g : A → List B)
 unfolding each
 map-each f [] g = refl
 map-each f (x ∷ xs) g = map-append f (g x) (each xs g) ∙ ap (λ ys. map f (g x) ++ ys) (map-each f xs g)
-
--- the total over the days
-pub total-days : (n : ℕ) (f : ℕ → ℤ) → total (map f (days_to n)) ≡ sum_days n f
-total-days n f = ap (λ xs. total (map f xs)) (days_to-below n) ∙ ap total (map-map f suc (below n))
-    ∙ total-below n (λ i. f (suc i))
 
 -- the total of one
 total-single : (z : ℤ) → total (z ∷ []) ≡ z

@@ -171,8 +171,3 @@ ArePartsOf c (parts.Optimal primal duals) =
     AreNumerators (length (columns c)) (numerators_of primal)
     × ArePositive (suc (length (row_names c))) (numerators_of duals)
 ArePartsOf c (parts.Cannot farkas) = ArePositive (length (row_names c)) (numerators_of farkas)
-
--- a certificate that refuses has no scenario weight
-abbrev pub HasNoScenario : Cert → Type 0
-HasNoScenario (Closes calendar loss weights) = Unit {0}
-HasNoScenario (Cannot weights) = All (λ z. z ≡ pos 0) weights.scenario

@@ -1,12 +1,12 @@
 // The certificate that the numbers of a last dictionary give.
 ghost use Rattle.std.specs.Prelude.{◌≡◌, suc, ◌-◌, ◌^◌, length, Err, IfOk, OnOk};
 ghost use Rattle.core_sums.specs.Places.{at};
-ghost use Rattle.core_model.specs.Fits.{Fits};
+ghost use Rattle.core_model.specs.Fits.{Fits, IsPlainlyRefusing};
 ghost use Rattle.core_lp.specs.declared.names.Col.TheVariants.{Loss};
 ghost use Rattle.core_lp.specs.ByName.{of_column};
 ghost use Rattle.core_lp.specs.CaseProgramme.{row_names};
 ghost use Rattle.core_lp.specs.Named.{named_of};
-ghost use Rattle.core_lp.specs.Placing.{placed, ArePartsOf, PlacedLeaves, HasNoScenario};
+ghost use Rattle.core_lp.specs.Placing.{placed, ArePartsOf, PlacedLeaves};
 ghost use Rattle.core_lp.specs.Placing.{loss_placed, dual_weights, farkas_weights, numerators_of, ArePositive, LossLeaves};
 
 use crate::built::Built;
@@ -107,7 +107,7 @@ pub fn cert_of(alloc: Global, case: &Case, built: &Built, parts: &Parts) -> Resu
     requires parts { ArePartsOf case.now parts.now }
     ensures placed { IfOk result (λ cert. cert ≡ placed case.now parts.now) }
     ensures fits { IfOk result (λ cert. Fits case.now cert) }
-    ensures refusing { IfOk result HasNoScenario }
+    ensures refusing { IfOk result IsPlainlyRefusing }
     ensures stays { OnOk result (¬ (PlacedLeaves (2 ^ 127 - 1) case.now parts.now)) }
     ensures too_wide { result ≡ Err DualFault.TooWide
         → PlacedLeaves (2 ^ 127 - 1) case.now parts.now }

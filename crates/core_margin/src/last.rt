@@ -2,9 +2,8 @@
 ghost use Rattle.std.specs.Prelude.{◌≡◌, Err, IfOk, OnOk};
 ghost use Rattle.core_sums.specs.Widths.{most};
 ghost use Rattle.core_book.specs.Kept.{IsCase};
-ghost use Rattle.core_model.specs.Fits.{Fits};
+ghost use Rattle.core_model.specs.Fits.{Fits, IsPlainlyRefusing};
 ghost use Rattle.core_lp.specs.Named.{named_of};
-ghost use Rattle.core_lp.specs.Placing.{HasNoScenario};
 ghost use Rattle.core_margin.specs.Last.{turn_of, IsReached, IsCertOf, CertLeaves};
 
 use core_book::Case;
@@ -32,7 +31,7 @@ pub(crate) fn last_cert<W: Store<Frac128>>(
     ensures too_wide { result ≡ Err DualFault.TooWide
         → CertLeaves most case.now (W.dictionary ran.now.dict) (turn_of ran.now.end) }
     ensures fits { IfOk result (Fits case.now) }
-    ensures refusing { IfOk result HasNoScenario }
+    ensures refusing { IfOk result IsPlainlyRefusing }
 {
     list_law();
     match ran.end {

@@ -1,13 +1,12 @@
 // The margin of a case.
 ghost use Rattle.std.specs.Prelude.{◌≡◌, ◌≢◌, ◌+◌, ◌^◌, ◌≤◌, Err, IfOk, IfSome};
 ghost use Rattle.core_model.specs.Check.{IsValid};
-ghost use Rattle.core_model.specs.Fits.{Fits};
+ghost use Rattle.core_model.specs.Fits.{Fits, IsPlainlyRefusing};
 ghost use Rattle.core_model.specs.Shows.{Shows};
 ghost use Rattle.core_rules.specs.Candidates.{before};
 ghost use Rattle.core_rules.specs.Kept.{Keeps, rule_view};
 ghost use Rattle.core_run.specs.Ranked.{AreRanked, GoesByVariable};
 ghost use Rattle.core_lp.specs.Named.{named_of};
-ghost use Rattle.core_lp.specs.Placing.{HasNoScenario};
 ghost use Rattle.core_margin.specs.Last.{start_of};
 ghost use Rattle.core_margin.specs.Outcomes.{MarginComesTo};
 ghost use Rattle.core_margin.specs.Answers.{outcome_of};
@@ -44,7 +43,7 @@ fn margin_of_programme_over<'a, N: Widen<W>, W: Store<Frac128>, F: Fn(&Cand, &Ca
     ensures shows { IfOk result (Shows case.now) }
     ensures valid { IfOk result (IsValid case.now) }
     ensures fits { IfOk result (Fits case.now) }
-    ensures refusing { IfOk result HasNoScenario }
+    ensures refusing { IfOk result IsPlainlyRefusing }
 {
     run_reaches();
     valid_margins();
@@ -80,7 +79,7 @@ pub fn margin_over<'a, N: Widen<W>, W: Store<Frac128>, F: Fn(&Cand, &Cand) -> bo
     ensures shows { IfOk result (Shows case.now) }
     ensures valid { IfOk result (IsValid case.now) }
     ensures fits { IfOk result (Fits case.now) }
-    ensures refusing { IfOk result HasNoScenario }
+    ensures refusing { IfOk result IsPlainlyRefusing }
 {
     let flows = Flows::make(alloc, case)?;
     let built = build(alloc, case, &flows)?;
@@ -104,7 +103,7 @@ pub fn margin<'a, F: Fn(&Cand, &Cand) -> bool>(
     ensures shows { IfOk result (Shows case.now) }
     ensures valid { IfOk result (IsValid case.now) }
     ensures fits { IfOk result (Fits case.now) }
-    ensures refusing { IfOk result HasNoScenario }
+    ensures refusing { IfOk result IsPlainlyRefusing }
 {
     margin_over::<Dense<Frac64>, Dense<Frac128>, F>(alloc, case, rule, budget)
 }
@@ -129,7 +128,7 @@ pub fn margin_of_programme<'a, F: Fn(&Cand, &Cand) -> bool>(
     ensures shows { IfOk result (Shows case.now) }
     ensures valid { IfOk result (IsValid case.now) }
     ensures fits { IfOk result (Fits case.now) }
-    ensures refusing { IfOk result HasNoScenario }
+    ensures refusing { IfOk result IsPlainlyRefusing }
 {
     margin_of_programme_over::<Dense<Frac64>, Dense<Frac128>, F>(alloc, case, built, rule, budget)
 }

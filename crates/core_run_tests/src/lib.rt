@@ -8,6 +8,8 @@
 mod dict;
 #[cfg(test)]
 mod duals;
+#[cfg(test)]
+mod fractions;
 pub mod refuse;
 #[cfg(test)]
 mod rules;

@@ -6,13 +6,12 @@ use Rattle.core_case.specs.Stated.{case_of_bytes}
 use Rattle.core_model.specs.declared.cert.Cert.{Cert}
 use Rattle.core_model.specs.declared.cert.Cert.TheVariants.{Closes, Cannot}
 use Rattle.core_model.specs.Shows.{Shows}
-use Rattle.core_model.specs.Fits.{Fits}
-use Rattle.core_cert.specs.Written.{cert_text, IsPlainlyRefusing}
+use Rattle.core_model.specs.Fits.{Fits, IsPlainlyRefusing}
+use Rattle.core_cert.specs.Written.{cert_text}
 use Rattle.core_case.proofs.StatedCases.{stated-whole}
 use Rattle.core_check.proofs.Showing.{showing_is_valid}
 use Rattle.core_cert.proofs.CertSize.{cert_text-short}
 use Rattle.core_cert.proofs.RoundTrip.{cert_texts_read}
-use Rattle.core_lp.specs.Placing.{HasNoScenario}
 use Rattle.core_lp.specs.Ranks.{variable_count}
 use Rattle.core_margin.specs.Outcomes.{MarginOutcome, Certificate, Common, Pivot, Spent}
 use Rattle.core_margin.specs.Laws.{MarginIsValid, OneMargin}
@@ -25,10 +24,6 @@ use Rattle.core_top.specs.Margin.{MarginWords, Comes, MarginOf, certified, wide_
 use Rattle.core_top.specs.Commands.{OneRose, no_fault}
 use Rattle.core_top.proofs.Statuses.{OwnStatus, cert-own}
 use Rattle.core_top.proofs.AtFile.{by-cause, at-file, at-has, Is, one-at}
-
-pub plainly-refusing : (x : Cert) → HasNoScenario x → IsPlainlyRefusing x
-plainly-refusing (Closes calendar loss weights) h = tt
-plainly-refusing (Cannot weights) h = h
 
 -- a certificate that shows what it says and fits its case
 read-back : (c : CaseView) (x : Cert) → IsCase c → Fits c x → IsPlainlyRefusing x → Shows c x → IsReadBack c x
@@ -44,7 +39,7 @@ cert-shows rose words c (Cannot weights) shows back = none weights shows back
 of-shows : MarginIsValid → (rose : List ℕ → Type 0) (words : MarginWords) (c : CaseView) → IsCase c → (s : ℕ) (t : List ℕ) → MarginOf words c s t → MarginShows rose words c s t
 of-shows law rose words c kept s t (certified x comes fits plainly) =
     let shows : Shows c x = (law c (preference c words.rule) words.budget x kept comes).0 in
-    cert-shows rose words c x shows (read-back c x kept fits (plainly-refusing x plainly) shows)
+    cert-shows rose words c x shows (read-back c x kept fits plainly shows)
 of-shows law rose words c kept s t (wide_pivot k comes) = pivot_leaves k comes
 of-shows law rose words c kept s t (wide_common comes) = cert_leaves comes
 of-shows law rose words c kept s t (spent comes) = not_ended comes

@@ -8,10 +8,9 @@ use Rattle.core_model.specs.declared.cert.Calendar.{Calendar}
 use Rattle.core_model.specs.declared.cert.Weights.{Weights}
 use Rattle.core_model.specs.declared.cert.Cert.{Cert}
 use Rattle.core_model.specs.declared.cert.Cert.TheVariants.{Closes, Cannot}
-use Rattle.core_model.specs.Fits.{Fits}
+use Rattle.core_model.specs.Fits.{Fits, IsPlainlyRefusing}
 use Rattle.core_model.specs.Shows.{ShowsLeast, ShowsNone}
 use Rattle.core_model.specs.Check.{IsValid, verdict, Failed}
-use Rattle.core_lp.specs.Placing.{HasNoScenario}
 use Rattle.core_lp.specs.Ranks.{variable_count, as_numbered}
 use Rattle.core_margin.specs.Outcomes.{MarginOutcome, Certificate, Common, Pivot, Spent, MarginComesTo}
 use Rattle.core_cert.specs.Written.{cert_text}
@@ -70,7 +69,7 @@ Comes words c outcome = MarginComesTo c (preference c words.rule) words.budget o
 -- What is due to a case: the certificate that it comes to, whose numbers 128 bits keep; or the pivot, or the common
 -- denominators of the certificate, that they do not; or that the budget is spent.
 pub data MarginOf (words : MarginWords) (c : CaseView) : ℕ → List ℕ → Type 0 where
-  certified : (x : Cert) → Comes words c (Certificate x) → Fits c x → HasNoScenario x
+  certified : (x : Cert) → Comes words c (Certificate x) → Fits c x → IsPlainlyRefusing x
       → MarginOf words c (cert_status x) (cert_text c x)
   wide_pivot : (k : ℕ) → Comes words c (Pivot k)
       → MarginOf words c 4 (line_text (lines.WidePivot k))

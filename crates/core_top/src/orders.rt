@@ -5,9 +5,8 @@ ghost use Rattle.std.specs.List.{list_all, list_any};
 ghost use Rattle.core_rules.specs.Candidates.{before, IsRanked};
 ghost use Rattle.core_rules.specs.Kept.{candidate_of, rule_by};
 ghost use Rattle.core_model.specs.Check.{IsValid};
-ghost use Rattle.core_model.specs.Fits.{Fits};
+ghost use Rattle.core_model.specs.Fits.{Fits, IsPlainlyRefusing};
 ghost use Rattle.core_model.specs.Shows.{Shows};
-ghost use Rattle.core_lp.specs.Placing.{HasNoScenario};
 ghost use Rattle.core_lp.specs.Ranks.{variable_count};
 ghost use Rattle.core_margin.specs.Answers.{outcome_of};
 ghost use Rattle.core_margin.specs.Outcomes.{MarginComesTo};
@@ -76,7 +75,7 @@ fn margin_by_variable(alloc: Global, case: &Case, budget: u64) -> Result<Cert, M
     ensures shows { IfOk result (Shows case.now) }
     ensures valid { IfOk result (IsValid case.now) }
     ensures fits { IfOk result (Fits case.now) }
-    ensures refusing { IfOk result HasNoScenario }
+    ensures refusing { IfOk result IsPlainlyRefusing }
 {
     let rule = Rule::keep(0, |kept: &Cand, next: &Cand| next.var < kept.var);
     margin(alloc, case, &rule, budget)
@@ -90,7 +89,7 @@ fn margin_by_value(alloc: Global, case: &Case, budget: u64) -> Result<Cert, Marg
     ensures shows { IfOk result (Shows case.now) }
     ensures valid { IfOk result (IsValid case.now) }
     ensures fits { IfOk result (Fits case.now) }
-    ensures refusing { IfOk result HasNoScenario }
+    ensures refusing { IfOk result IsPlainlyRefusing }
 {
     let rule = Rule::keep(1, |kept: &Cand, next: &Cand| {
         next.value < kept.value || (next.value == kept.value && next.var < kept.var)
@@ -106,7 +105,7 @@ fn margin_by_place(alloc: Global, case: &Case, budget: u64) -> Result<Cert, Marg
     ensures shows { IfOk result (Shows case.now) }
     ensures valid { IfOk result (IsValid case.now) }
     ensures fits { IfOk result (Fits case.now) }
-    ensures refusing { IfOk result HasNoScenario }
+    ensures refusing { IfOk result IsPlainlyRefusing }
 {
     let rule = Rule::keep(2, |_kept: &Cand, _next: &Cand| true);
     margin(alloc, case, &rule, budget)
@@ -125,7 +124,7 @@ fn margin_by_kinds(
     ensures shows { IfOk result (Shows case.now) }
     ensures valid { IfOk result (IsValid case.now) }
     ensures fits { IfOk result (Fits case.now) }
-    ensures refusing { IfOk result HasNoScenario }
+    ensures refusing { IfOk result IsPlainlyRefusing }
 {
     let flows = Flows::make(alloc, case)?;
     let built = build(alloc, case, &flows)?;
@@ -160,7 +159,7 @@ pub(crate) fn margin_by(
     ensures shows { IfOk result (Shows case.now) }
     ensures valid { IfOk result (IsValid case.now) }
     ensures fits { IfOk result (Fits case.now) }
-    ensures refusing { IfOk result HasNoScenario }
+    ensures refusing { IfOk result IsPlainlyRefusing }
 {
     match order {
         Order::LeastVariable => margin_by_variable(alloc, case, budget),

@@ -2,10 +2,10 @@ use Rattle.std.proofs.Common.{◌∙◌, ◌^◌, ◌-◌, sym, ap, subst, rules
 use Rattle.std.specs.Int.{w128}
 use Rattle.std.proofs.lemmas.Int.{to_z-of_z}
 use Rattle.core_sums.specs.Places.{at}
-use Rattle.core_model.specs.Fits.{Fits}
+use Rattle.core_model.specs.Fits.{Fits, IsPlainlyRefusing}
 use Rattle.core_model.specs.declared.cert.Cert.TheVariants.{Cannot}
 use Rattle.core_lp.specs.CaseProgramme.{columns}
-use Rattle.core_lp.specs.Placing.{numerators_of, placed, PlacedLeaves, HasNoScenario}
+use Rattle.core_lp.specs.Placing.{numerators_of, placed, PlacedLeaves}
 use Rattle.core_lp.specs.Walked.{by_column}
 use Rattle.core_lp.proofs.PlacedFits.{closes-are, placed-fits, placed-refuses}
 use Rattle.core_lp.proofs.certificate.cert_of.Goals as goal
@@ -45,4 +45,4 @@ returns-in_ok-farkas_weights-in-Cannot-clause-refusing c =
     let case = c.args.case.now in
     let is = ap Cannot c.in_ok-farkas_weights-in-Cannot.ensures
     ∙ sym (ap (placed case) c.in-Cannot.is) in
-    subst HasNoScenario (sym is) (placed-refuses case c.args.parts.now)
+    subst IsPlainlyRefusing (sym is) (placed-refuses case c.args.parts.now)
