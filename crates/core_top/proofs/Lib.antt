@@ -4,6 +4,7 @@ mod Statuses
 mod MarginDue
 mod HouseOrder
 mod CheckDue
+mod DemoDue
 mod Commands
 mod Owing
 mod Steps

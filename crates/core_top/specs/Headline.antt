@@ -4,7 +4,8 @@ use Rattle.core_io.specs.States.{ShelfState, KeepsBytes, KeepsCounts, KeepsCount
 use Rattle.core_top.specs.Around.{Around, told, ShelfRose, SinkRose, Between, Answered}
 use Rattle.core_top.specs.Margin.{MarginWords, MarginOwes, MarginServes}
 use Rattle.core_top.specs.Check.{CheckWords, CheckOwes}
-use Rattle.core_top.specs.Commands.{Command, Margin, Check, command_of, names_read, IsDue, AllTold, NoneRose, OneRose, no_fault}
+use Rattle.core_top.specs.Demo.{DemoWords, DemoOwes}
+use Rattle.core_top.specs.Commands.{Command, Margin, Check, Demo, command_of, names_read, IsDue, AllTold, NoneRose, OneRose, no_fault}
 
 -- The answer is one that is due, and so exact at each file whose bytes are told, whatever is told of another.
 abbrev pub IsExact : Around → Option Command → ℕ → Type 0
@@ -36,6 +37,8 @@ pub record Owes (a : Around) (words : List (List ℕ)) (status : ℕ) : Type 0 w
       → MarginServes a asked status
   pub check : (asked : CheckWords) → command_of words ≡ Some (Check asked)
       → CheckOwes a asked status
+  pub demo : (asked : DemoWords) → command_of words ≡ Some (Demo asked)
+      → DemoOwes a asked status
   pub exact : IsExact a (command_of words) status
   pub complete : IsComplete a (command_of words) status
   pub causes : HasCauses a (command_of words) status

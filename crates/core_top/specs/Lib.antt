@@ -5,5 +5,6 @@ pub mod Files
 pub mod Around
 pub mod Margin
 pub mod Check
+pub mod Demo
 pub mod Commands
 pub mod Headline

@@ -6,7 +6,7 @@ use std::alloc::{AllocError, Global};
 use std::process::Abort;
 use std::test::Fail;
 
-const OTHER_WORDS: [&[&str]; 17] = [
+const OTHER_WORDS: [&[&str]; 26] = [
     &[],
     &["margin"],
     &["margin", ""],
@@ -23,6 +23,15 @@ const OTHER_WORDS: [&[&str]; 17] = [
     &["check", "", "C"],
     &["check", "C", ""],
     &["check", "C", "C", "C"],
+    &["demo"],
+    &["demo", ""],
+    &["demo", "0"],
+    &["demo", "33"],
+    &["demo", "-3"],
+    &["demo", "+3"],
+    &["demo", "03"],
+    &["demo", "3", "4"],
+    &["Demo", "3"],
     &["C", "margin"],
 ];
 
@@ -374,6 +383,27 @@ fn answers_reads_and_writes_that_fail_in_a_check(rt: HostRuntime) -> Result<(), 
             (said.0, said.1.as_str()),
             (status, want),
             "at {case}, {cert}, {read}, {room}"
+        );
+    }
+    Ok(())
+}
+
+#[test]
+fn closes_a_demo_case(rt: HostRuntime) -> Result<(), Fail> {
+    let alloc = rt.alloc();
+    let mut shelf = MemShelf::make(alloc);
+    // The words, the sink's room, the status and what is written.
+    for (count, room, status, want) in [
+        ("1", 13, 0, "demo,1,240,1\n"),
+        ("3", 1000, 0, "demo,3,1440,1\n"),
+        ("3", 6, 7, "demo,3"),
+    ] {
+        let sink = MemSink::make(alloc, room, 1000)?;
+        let said = answer(alloc, &["demo", count], &mut shelf, sink)?;
+        assert_eq!(rt;
+            (said.0, said.1.as_str()),
+            (status, want),
+            "at {count}, {room}"
         );
     }
     Ok(())
