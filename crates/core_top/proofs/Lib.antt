@@ -6,6 +6,7 @@ mod HouseOrder
 mod JudgedDue
 mod CheckDue
 mod ReportDue
+mod DemoDue
 mod Commands
 mod Owing
 mod Steps

@@ -7,5 +7,6 @@ pub mod Margin
 pub mod Judged
 pub mod Check
 pub mod Report
+pub mod Demo
 pub mod Commands
 pub mod Headline

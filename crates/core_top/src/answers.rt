@@ -104,7 +104,7 @@ impl Line {
 }
 
 /// A record of one word.
-fn one(alloc: Global, word: &[u8]) -> Result<Fields, AllocError>
+pub(crate) fn one(alloc: Global, word: &[u8]) -> Result<Fields, AllocError>
     ensures { IfOk result (λ fields. fields ≡ word.now ∷ []) }
 {
     let mut fields = Fields::make(alloc);

@@ -9,7 +9,7 @@ use std::alloc::{AllocError, Global};
 use std::process::Abort;
 use std::test::Fail;
 
-const OTHER_WORDS: [&[&str]; 21] = [
+const OTHER_WORDS: [&[&str]; 30] = [
     &[],
     &["margin"],
     &["margin", ""],
@@ -30,6 +30,15 @@ const OTHER_WORDS: [&[&str]; 21] = [
     &["report", "", "C"],
     &["report", "C", ""],
     &["report", "C", "C", "C"],
+    &["demo"],
+    &["demo", ""],
+    &["demo", "0"],
+    &["demo", "33"],
+    &["demo", "-3"],
+    &["demo", "+3"],
+    &["demo", "03"],
+    &["demo", "3", "4"],
+    &["Demo", "3"],
     &["C", "margin"],
 ];
 
@@ -406,6 +415,27 @@ fn reports_a_certificate_that_passes(rt: HostRuntime) -> Result<(), Fail> {
         let sink = MemSink::make(alloc, 1000, 1000)?;
         let said = answer(alloc, &["report", "C", "K"], &mut shelf, sink)?;
         assert_eq!(rt; (said.0, said.1.as_str()), (status, want), "at {cert}");
+    }
+    Ok(())
+}
+
+#[test]
+fn closes_a_demo_case(rt: HostRuntime) -> Result<(), Fail> {
+    let alloc = rt.alloc();
+    let mut shelf = MemShelf::make(alloc);
+    // The words, the sink's room, the status and what is written.
+    for (count, room, status, want) in [
+        ("1", 13, 0, "demo,1,240,1\n"),
+        ("3", 1000, 0, "demo,3,1440,1\n"),
+        ("3", 6, 7, "demo,3"),
+    ] {
+        let sink = MemSink::make(alloc, room, 1000)?;
+        let said = answer(alloc, &["demo", count], &mut shelf, sink)?;
+        assert_eq!(rt;
+            (said.0, said.1.as_str()),
+            (status, want),
+            "at {count}, {room}"
+        );
     }
     Ok(())
 }
