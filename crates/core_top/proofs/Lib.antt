@@ -3,7 +3,10 @@ mod AtFile
 mod Statuses
 mod MarginDue
 mod HouseOrder
+mod JudgedDue
 mod CheckDue
+mod ReportDue
+mod DemoDue
 mod Commands
 mod Owing
 mod Steps

@@ -38,9 +38,13 @@ budget_from _ = None
 abbrev pub budget_of : List ℕ → Option ℕ
 budget_of word = budget_from (whole word)
 
--- the budget and the rule of the words after the name: 100000 pivots and the least variable where they are not said
+-- the budget where none is said
+abbrev pub default_budget : ℕ
+default_budget = 100000
+
+-- the budget and the rule of the words after the name: that budget and the least variable where they are not said
 abbrev pub limits_of : List (List ℕ) → Option (ℕ × RuleWord)
-limits_of [] = Some (100000, LeastVariable)
+limits_of [] = Some (default_budget, LeastVariable)
 limits_of (budget ∷ []) = option_map (λ b. (b, LeastVariable)) (budget_of budget)
 limits_of (budget ∷ rule ∷ []) = option_zip (budget_of budget) (rule_of rule)
 limits_of _ = None

@@ -21,7 +21,7 @@ use core_run::least_variable_laws;
 use std::alloc::Global;
 
 /// The greatest count of pivots where the words say none.
-const BUDGET: u64 = 100_000;
+pub(crate) const BUDGET: u64 = 100_000;
 
 /// The name of the case, which is not empty, the greatest count of pivots and the rule.
 #[derive(Clone, Copy, Debug)]
