@@ -48,7 +48,7 @@ fn a_run_begins_at_64_bits_and_goes_on_at_128(rt: HostRuntime) -> Result<(), Fai
 }
 
 #[test]
-fn a_margin_over_dense_tableaus(rt: HostRuntime) -> Result<(), Fail> {
+fn a_margin_over_what_is_not_0(rt: HostRuntime) -> Result<(), Fail> {
     let alloc = rt.alloc();
     let case = read_case(alloc, TWO_SCENARIOS.as_bytes())?;
     let rule = Rule::keep(0, |kept: &Cand, next: &Cand| next.var < kept.var);
