@@ -1,36 +1,22 @@
 -- The dates of house days, and what their texts say.
-use Rattle.std.proofs.Common.{◌≡◌, refl, sym, ◌∙◌, ap, ℕ, zero, suc, lit≤, arith, ℤ, pos, negsuc, ◌≤ℤ◌, ◌<ℤ◌, inl, List, [], ◌∷◌, ◌++◌, ◌+◌, length, map, get_or, Option, Some, None}
+use Rattle.std.proofs.Common.{◌≡◌, refl, sym, ◌∙◌, ap, ℕ, zero, suc, arith, ℤ, pos, negsuc, ◌≤ℤ◌, List, [], ◌∷◌, ◌++◌, ◌+◌, length, map, get_or, Option, Some, None}
 use Rattle.std.proofs.lemmas.Int.{ints}
 use Rattle.std.proofs.lemmas.List.{length-map, map-append}
-use Rattle.jiff_core.specs.Calendar.{IsBetween, day_count, days_from_civil, days_of_months, days_of_years}
+use Rattle.jiff_core.specs.Calendar.{IsBetween}
 use Rattle.jiff_core.specs.Date.{epoch_day}
 use Rattle.jiff_core.specs.declared.civil.date.Date.{Date}
-use Rattle.jiff_core.proofs.DateLemmas.{epoch_day-lt}
 use Rattle.core_sums.specs.Places.{below, row_at}
 use Rattle.core_sums.proofs.Lists.{length-below, get_or-below}
 use Rattle.core_rows.specs.Fields.{day_of}
+use Rattle.core_rows.proofs.Dates.{year-of-day}
 use Rattle.core_rows.specs.Written.{date_text}
 use Rattle.core_book.specs.View.{CaseView, date}
 use Rattle.core_book.specs.Kept.{IsCase}
 use Rattle.core_report.specs.Report.{AreDates}
 
--- the first day of the year 1
-abbrev year_one : Date
-year_one = record { year = pos 1; month = 1; day = 1; year_in = omega (arith, ints); month_in = (lit≤ tt, lit≤ tt); day_in = (lit≤ tt, lit≤ tt) }
-
-begins : epoch_day year_one ≡ negsuc 719161
-unfolding days_from_civil day_count days_of_years days_of_months
-begins = refl
-
-from-one : (y : ℤ) → (y <ℤ pos 1 → ⊥) → pos 1 ≤ℤ y
-from-one (pos zero) later = absurd (later (omega (arith, ints)))
-from-one (pos (suc n)) later = omega (arith, ints)
-from-one (negsuc n) later = absurd (later (omega (arith, ints)))
-
 -- a date from 1900 on is of a year that ten bytes can write
 pub printed-year : (d : Date) → negsuc 25566 ≤ℤ epoch_day d → IsBetween (pos 1) (pos 9999) d.year
-printed-year d from =
-    (from-one d.year (λ early. let before = epoch_day-lt d year_one (inl early) in absurd (omega (arith, ints, from, before, begins))), omega (arith, ints, d.year_in))
+printed-year d from = year-of-day d (omega (arith, ints, from))
 
 -- no house day lies before 1900
 pub house-date-from : (c : CaseView) (t : ℕ) → IsCase c → negsuc 25566 ≤ℤ date c t

@@ -11,3 +11,6 @@ mod Checked
 mod Refusing
 mod Replayed
 mod Ranked
+mod Least
+mod OneReport
+mod Fixed

@@ -1,5 +1,6 @@
 pub mod Cells
 pub mod Faults
+pub mod Laws
 pub mod Ranking
 pub mod Records
 pub mod Report

@@ -9,7 +9,7 @@ use Rattle.core_model.specs.declared.cert.Cert.{Cert}
 use Rattle.core_model.specs.declared.cert.Cert.TheVariants.{Closes, Cannot}
 use Rattle.core_model.specs.Closing.{Plan}
 use Rattle.core_model.specs.Layout.{plan_of}
-use Rattle.core_replay.specs.Ledger.{IsWorstAt, LeavesFirst}
+use Rattle.core_replay.specs.Ledger.{IsWorstAt, LeavesFirst, NoneLeaves}
 use Rattle.core_report.specs.declared.fault.ReportFault.{ReportFault}
 use Rattle.core_report.specs.declared.fault.ReportFault.TheVariants.{TooWide, NoMemory}
 use Rattle.core_report.specs.declared.top.Loss.{Loss}
@@ -21,12 +21,14 @@ pub record AreDates (c : CaseView) (dates : List (List ℕ)) : Type 0 where
   pub count : length dates ≡ suc c.last
   pub each : (t : ℕ) → t ≤ c.last → day_of (row_at dates t) ≡ Some (date c t)
 
--- the report of a calendar: its ledger is that of the first scenario that has the worst loss
+-- the report of a calendar none of whose numbers leaves 128 bits: its ledger is that of the first scenario that
+-- has the worst loss
 pub record IsClosesReport (c : CaseView) (a : Plan) (text : List ℕ) : Type 0 where
   pub dates : List (List ℕ)
   pub scenario : ℕ
   pub day : ℕ
   pub top : List Loss
+  pub stays : NoneLeaves c a
   pub are_dates : AreDates c dates
   pub is_worst : IsWorstAt c a scenario day
   pub are_top : AreTop c a top

@@ -6,6 +6,7 @@ mod cells;
 mod closes;
 mod dates;
 mod fault;
+mod laws;
 mod ledger;
 mod numbers;
 mod row;
@@ -15,5 +16,6 @@ mod top;
 mod weights;
 
 pub use fault::ReportFault;
-pub use text::{report, report_refusal};
+pub use laws::report_law;
+pub use text::report;
 pub use top::Loss;

@@ -7,12 +7,11 @@ ghost use Rattle.core_model.specs.Check.{verdict, Passed};
 ghost use Rattle.core_model.specs.Fits.{CalendarFits, Fits, IsKept, WeightsFit};
 ghost use Rattle.core_model.specs.Layout.{plan_of};
 ghost use Rattle.core_model.specs.Shows.{Shows};
-ghost use Rattle.core_model.specs.declared.cert.Cert.TheVariants.{Cannot};
 ghost use Rattle.core_cert.specs.Written.{is_plain_word};
 ghost use Rattle.core_replay.specs.Answers.{IsLedger, IsWorstLoss};
 ghost use Rattle.core_report.specs.Ranking.{AreTop};
 ghost use Rattle.core_report.specs.Records.{cannot_records, closes_records, loss_records, ratio_record, rounded_up};
-ghost use Rattle.core_report.specs.Report.{AreDates, IsCannotReport, IsClosesReport, IsReport, StopsClosing, StopsReport};
+ghost use Rattle.core_report.specs.Report.{AreDates, IsClosesReport, IsReport, StopsClosing, StopsReport};
 ghost use Rattle.core_report.specs.Stays.{BoundStays, ClosingsStay};
 
 use crate::closes::{put_closes, put_limits, put_pools};
@@ -117,24 +116,6 @@ fn cannot_report(
     weights::put_pools(alloc, &mut out, case, dates, weights)?;
     put_end(alloc, &mut out)?;
     Ok(out)
-}
-
-/// The text of the report of weights that refuse every calendar, for a certificate that the check accepts: records of
-/// fields joined by commas, each ended by a line feed. Fractions are two fields in lowest terms.
-///
-/// There are: by how much the book is short, which is the bound of the weights, and then the weights that are not 0, by
-/// line, by day, instrument and tier, and by day and pool, all over the weights' denominator. Tiers are named where an
-/// instrument of the case has more than one. The only error is want of memory.
-pub fn report_refusal(alloc: Global, case: &Case, weights: &Weights) -> Result<Vec<u8>, AllocError>
-    requires fits { WeightsFit case.now weights.now }
-    requires passed { verdict case.now (Cannot weights.now) ≡ Passed }
-    requires refusing { AreRefusing case.now weights.now }
-    ensures { IfOk result (λ text. IsCannotReport case.now weights.now text.items) }
-{
-    // Every case keeps the bounds that the places of the weights stand on.
-    let _kept = case.horizon();
-    let dates = Dates::of_case(alloc, case)?;
-    cannot_report(alloc, case, &dates, weights)
 }
 
 /// The records of a calendar's report, with its worst loss, the ledger of that scenario and its greatest losses.

@@ -145,10 +145,18 @@ ymd-only a b c d e f g h s =
     let day = two-back g h s.d1 s.d2 in
     cc (year.1, year.2, year.3, year.4, month.0, month.1, day.0, day.1)
 
-date-at : (a b c d s e f t g h : ℕ) (date : Date)
-    → day_of (a ∷ b ∷ c ∷ d ∷ s ∷ e ∷ f ∷ t ∷ g ∷ h ∷ []) ≡ Some (epoch_day date)
+-- what has a date's digits is its text
+text-of-digits : (a b c d s e f t g h : ℕ) (date : Date) → AreDigits a b c d e f g h → s ≡ 45 → t ≡ 45
+    → date.year ≡ pos (digits_value (a ∷ b ∷ c ∷ d ∷ [])) → date.month ≡ digits_value (e ∷ f ∷ []) → date.day ≡ digits_value (g ∷ h ∷ [])
     → a ∷ b ∷ c ∷ d ∷ s ∷ e ∷ f ∷ t ∷ g ∷ h ∷ [] ≡ date_text date
-date-at a b c d s e f t g h date read = elim (cases_Bool (list_all is_digit (a ∷ b ∷ c ∷ d ∷ e ∷ f ∷ g ∷ h ∷ []) && (s == 45) && (t == 45))) [
+text-of-digits a b c d s e f t g h date digits first second year month day =
+    let positive : unsigned_abs date.year ≡ digits_value (a ∷ b ∷ c ∷ d ∷ []) = ap unsigned_abs year in
+    rw (first, second, positive, month, day) (ymd-only a b c d e f g h digits)
+
+-- ten bytes that are read as a day are the text of its date
+date-at : (a b c d s e f t g h : ℕ) (day : ℤ) → day_of (a ∷ b ∷ c ∷ d ∷ s ∷ e ∷ f ∷ t ∷ g ∷ h ∷ []) ≡ Some day
+    → (date : Date) × (epoch_day date ≡ day) × (a ∷ b ∷ c ∷ d ∷ s ∷ e ∷ f ∷ t ∷ g ∷ h ∷ [] ≡ date_text date)
+date-at a b c d s e f t g h day read = elim (cases_Bool (list_all is_digit (a ∷ b ∷ c ∷ d ∷ e ∷ f ∷ g ∷ h ∷ []) && (s == 45) && (t == 45))) [
   | inl good ↦
       let p2 = and_parts _ (t == 45) good in
       let p1 = and_parts (list_all is_digit (a ∷ b ∷ c ∷ d ∷ e ∷ f ∷ g ∷ h ∷ [])) (s == 45) p2.0 in
@@ -156,19 +164,29 @@ date-at a b c d s e f t g h date read = elim (cases_Bool (list_all is_digit (a �
       let m = digits_value (e ∷ f ∷ []) in
       let n = digits_value (g ∷ h ∷ []) in
       let digits = are-digits a b c d e f g h p1.0 in
-      let own = civil-date y m n (epoch_day date) (four-back a b c d digits.y1 digits.y2 digits.y3 digits.y4).0 (rw good at read) in
-      let same = epoch_day_injective own.0 date own.4 in
-      let year : unsigned_abs date.year ≡ y = ap unsigned_abs (sym same.0 ∙ own.1) in
-      let month : date.month ≡ m = sym same.1 ∙ own.2 in
-      let day : date.day ≡ n = sym same.2 ∙ own.3 in
-      rw (eqb-true s 45 p1.1, eqb-true t 45 p2.1, year, month, day) (ymd-only a b c d e f g h digits)
+      let own = civil-date y m n day (four-back a b c d digits.y1 digits.y2 digits.y3 digits.y4).0 (rw good at read) in
+      (own.0, own.4, text-of-digits a b c d s e f t g h own.0 digits (eqb-true s 45 p1.1) (eqb-true t 45 p2.1) own.1 own.2 own.3)
   | inr bad ↦ cc (rw bad at read)
 ]
 
--- a field that is read as a date is the date's text
+field-date : (field : List ℕ) (day : ℤ) → day_of field ≡ Some day → (date : Date) × (epoch_day date ≡ day) × (field ≡ date_text date)
+field-date (a ∷ b ∷ c ∷ d ∷ s ∷ e ∷ f ∷ t ∷ g ∷ h ∷ []) day read = date-at a b c d s e f t g h day read
+field-date _ day read = cc read
+
+-- dates of one day number have one text
+same-text : (date other : Date) → epoch_day date ≡ epoch_day other → date_text date ≡ date_text other
+same-text date other e =
+    let same = epoch_day_injective date other e in
+    rw (same.0, same.1, same.2) refl
+
+-- a field that is read as a date is the date's text, and one field is read as a day
 pub date-only : (field : List ℕ) (date : Date) → day_of field ≡ Some (epoch_day date) → field ≡ date_text date
-date-only (a ∷ b ∷ c ∷ d ∷ s ∷ e ∷ f ∷ t ∷ g ∷ h ∷ []) date read = date-at a b c d s e f t g h date read
-date-only _ date read = cc read
+date-only field date read = let own = field-date field (epoch_day date) read in own.2 ∙ same-text own.0 date own.1
+
+pub one-text : (field other : List ℕ) (day : ℤ) → day_of field ≡ Some day → day_of other ≡ Some day → field ≡ other
+one-text field other day read also =
+    let own = field-date field day read in
+    own.2 ∙ sym (date-only other own.0 (also ∙ ap Some (sym own.1)))
 
 -- the first day of the year 1
 abbrev first_date : Date

@@ -8,7 +8,7 @@ mod Unquoted
 pub mod Plain
 pub mod Numbers
 pub mod ReadBack
-mod Dates
+pub mod Dates
 pub mod RecordCount
 pub mod FirstStep
 pub mod FieldWalk

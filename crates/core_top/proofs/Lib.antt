@@ -3,7 +3,9 @@ mod AtFile
 mod Statuses
 mod MarginDue
 mod HouseOrder
+mod JudgedDue
 mod CheckDue
+mod ReportDue
 mod Commands
 mod Owing
 mod Steps

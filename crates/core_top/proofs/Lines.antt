@@ -1,8 +1,8 @@
 -- The fields of every line are plain, so its text is one record.
-use Rattle.std.proofs.Common.{refl, [], ◌∷◌, ℕ, List, codes, pos}
-use Rattle.core_rows.specs.Fields.{number_text}
+use Rattle.std.proofs.Common.{refl, [], ◌∷◌, ℕ, List, codes, decimal, pos}
+use Rattle.core_rows.specs.Fields.{IsName, number_text}
 use Rattle.core_rows.specs.Written.{IsPlainField, IsPlainRow}
-use Rattle.core_rows.proofs.Plain.{number_text-plain, row-plain-one, row-plain-more, word-plain}
+use Rattle.core_rows.proofs.Plain.{decimal-plain, is_name-plain, number_text-plain, row-plain-one, row-plain-more, word-plain}
 use Rattle.core_top.specs.declared.answers.File.{File}
 use Rattle.core_top.specs.declared.answers.File.TheVariants as files
 use Rattle.core_top.specs.declared.answers.Line.{Line}
@@ -34,3 +34,9 @@ line-plain (WidePivot k) =
     (row-plain-more (codes "pivot") _ (word-plain (codes "pivot") refl) (row-plain-one (number_text (pos k)) (number_text-plain (pos k))))
 line-plain WideCommon = row-plain-more (codes "wide") _ (word-plain (codes "wide") refl) (row-plain-one (codes "common") (word-plain (codes "common") refl))
 line-plain (Spent budget) = row-plain-more (codes "spent") _ (word-plain (codes "spent") refl) (row-plain-one (number_text (pos budget)) (number_text-plain (pos budget)))
+
+-- so are those of the line of a replay that leaves 128 bits
+pub leaving-plain : (name : List ℕ) (day : ℕ) → IsName name → IsPlainRow (codes "wide" ∷ codes "report" ∷ name ∷ decimal day ∷ [])
+leaving-plain name day is =
+    row-plain-more (codes "wide") _ (word-plain (codes "wide") refl)
+    (row-plain-more (codes "report") _ (word-plain (codes "report") refl) (row-plain-more name _ (is_name-plain name is) (row-plain-one (decimal day) (decimal-plain day))))

@@ -4,12 +4,15 @@ use Rattle.core_io.specs.States.{KeepsBytes, KeepsCounts, KeepsCount}
 use Rattle.core_margin.specs.Laws.{MarginIsValid}
 use Rattle.core_top.specs.Around.{Around, told, ShelfRose, Answered, written, cut, unanswered}
 use Rattle.core_top.specs.Margin.{MarginShows, IsNeverSpent}
-use Rattle.core_top.specs.Check.{CheckShows}
+use Rattle.core_top.specs.Judged.{JudgedShows}
+use Rattle.core_top.specs.Check.{Accepts}
+use Rattle.core_top.specs.Report.{Reports}
 use Rattle.core_top.specs.Commands.{Command, command_of, names_read, IsDue}
 use Rattle.core_top.specs.Headline.{IsExact, IsComplete, HasCauses, Owes}
 use Rattle.core_top.proofs.Statuses.{OwnStatus, never-2, never-7, never-8, read-6}
 use Rattle.core_top.proofs.MarginDue.{margin-shows, margin-serves}
 use Rattle.core_top.proofs.CheckDue.{check-shows}
+use Rattle.core_top.proofs.ReportDue.{report-shows}
 use Rattle.core_top.proofs.Commands.{calm-due, due-own}
 
 -- what may be answered may be seen as more
@@ -54,8 +57,10 @@ owing valid never a words status exact kept shelf sink = record {
       (λ s t due. margin-shows valid (told a) (ShelfRose a) asked c has s t (subst (λ (x : Option Command). IsDue x (told a) (ShelfRose a) s t) e due)) exact;
   serves = λ asked e c has goes enough. not-5 a (IsDue (command_of words) (told a) (ShelfRose a)) status
       (λ s t due. margin-serves never (told a) (ShelfRose a) asked c has goes enough s t (subst (λ (x : Option Command). IsDue x (told a) (ShelfRose a) s t) e due)) exact;
-  check = λ asked e c has some. answered a (IsDue (command_of words) (told a) (ShelfRose a)) (CheckShows (told a) (ShelfRose a) asked c) status
+  check = λ asked e c has some. answered a (IsDue (command_of words) (told a) (ShelfRose a)) (JudgedShows (told a) (ShelfRose a) asked.case asked.cert c (Accepts c)) status
       (λ s t due. check-shows (told a) (ShelfRose a) asked c has some s t (subst (λ (x : Option Command). IsDue x (told a) (ShelfRose a) s t) e due)) exact;
+  report = λ asked e c has some. answered a (IsDue (command_of words) (told a) (ShelfRose a)) (JudgedShows (told a) (ShelfRose a) asked.case asked.cert c (Reports c)) status
+      (λ s t due. report-shows (told a) (ShelfRose a) asked c has some s t (subst (λ (x : Option Command). IsDue x (told a) (ShelfRose a) s t) e due)) exact;
   exact = exact;
   complete = complete a (command_of words) status exact;
   causes = causes a (command_of words) status exact;

@@ -4,23 +4,28 @@ use Rattle.std.specs.Option.{option_map, option_or}
 use Rattle.core_top.specs.declared.answers.Line.TheVariants.{Usage}
 use Rattle.core_top.specs.Answers.{line_text}
 use Rattle.core_top.specs.Margin.{MarginWords, margin_words, MarginDue}
-use Rattle.core_top.specs.Check.{CheckWords, check_words, CheckDue}
+use Rattle.core_top.specs.Judged.{CertWords}
+use Rattle.core_top.specs.Check.{check_words, CheckDue}
+use Rattle.core_top.specs.Report.{report_words, ReportDue}
 
 pub data Command : Type 0 where
   Margin : MarginWords → Command
-  Check : CheckWords → Command
+  Check : CertWords → Command
+  Report : CertWords → Command
 
 -- the command that the words are
 abbrev pub command_of : List (List ℕ) → Option Command
 command_of words =
     option_or (option_map Margin (margin_words words))
-    (option_map Check (check_words words))
+    (option_or (option_map Check (check_words words))
+    (option_map Report (report_words words)))
 
 -- the names of the files that a command reads
 abbrev pub names_read : Option Command → List (List ℕ)
 names_read None = []
 names_read (Some (Margin words)) = words.case ∷ []
 names_read (Some (Check words)) = words.case ∷ words.cert ∷ []
+names_read (Some (Report words)) = words.case ∷ words.cert ∷ []
 
 -- The answer that is due to the words: a status and a text. `rose name` says that the shelf's count of faults of that
 -- name rose in the call. Where bytes are told they decide, and where none are it says what may be answered.
@@ -29,6 +34,7 @@ abbrev pub IsDue : Option Command → (List ℕ → Option (List ℕ)) → (List
 IsDue None told rose status text = (status ≡ 2) × (text ≡ line_text Usage)
 IsDue (Some (Margin words)) told rose status text = MarginDue words told rose status text
 IsDue (Some (Check words)) told rose status text = CheckDue words told rose status text
+IsDue (Some (Report words)) told rose status text = ReportDue words told rose status text
 
 -- all names of a list are told, the count of none of them rose, or that of one did
 abbrev pub AllTold : (List ℕ → Option (List ℕ)) → List (List ℕ) → Type 0

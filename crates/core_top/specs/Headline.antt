@@ -3,8 +3,10 @@ use Rattle.std.specs.Prelude.{◌≡◌, ◌↔◌, ◌⊎◌, ℕ, List, [], �
 use Rattle.core_io.specs.States.{ShelfState, KeepsBytes, KeepsCounts, KeepsCount, Writes}
 use Rattle.core_top.specs.Around.{Around, told, ShelfRose, SinkRose, Between, Answered}
 use Rattle.core_top.specs.Margin.{MarginWords, MarginOwes, MarginServes}
-use Rattle.core_top.specs.Check.{CheckWords, CheckOwes}
-use Rattle.core_top.specs.Commands.{Command, Margin, Check, command_of, names_read, IsDue, AllTold, NoneRose, OneRose, no_fault}
+use Rattle.core_top.specs.Judged.{CertWords}
+use Rattle.core_top.specs.Check.{CheckOwes}
+use Rattle.core_top.specs.Report.{ReportOwes}
+use Rattle.core_top.specs.Commands.{Command, Margin, Check, Report, command_of, names_read, IsDue, AllTold, NoneRose, OneRose, no_fault}
 
 -- The answer is one that is due, and so exact at each file whose bytes are told, whatever is told of another.
 abbrev pub IsExact : Around → Option Command → ℕ → Type 0
@@ -34,8 +36,10 @@ pub record Owes (a : Around) (words : List (List ℕ)) (status : ℕ) : Type 0 w
       → MarginOwes a asked status
   pub serves : (asked : MarginWords) → command_of words ≡ Some (Margin asked)
       → MarginServes a asked status
-  pub check : (asked : CheckWords) → command_of words ≡ Some (Check asked)
+  pub check : (asked : CertWords) → command_of words ≡ Some (Check asked)
       → CheckOwes a asked status
+  pub report : (asked : CertWords) → command_of words ≡ Some (Report asked)
+      → ReportOwes a asked status
   pub exact : IsExact a (command_of words) status
   pub complete : IsComplete a (command_of words) status
   pub causes : HasCauses a (command_of words) status

@@ -4,6 +4,8 @@ pub mod Answers
 pub mod Files
 pub mod Around
 pub mod Margin
+pub mod Judged
 pub mod Check
+pub mod Report
 pub mod Commands
 pub mod Headline

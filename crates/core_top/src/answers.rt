@@ -113,7 +113,7 @@ fn one(alloc: Global, word: &[u8]) -> Result<Fields, AllocError>
 }
 
 /// A record of two words.
-fn pair(alloc: Global, first: &[u8], second: &[u8]) -> Result<Fields, AllocError>
+pub(crate) fn pair(alloc: Global, first: &[u8], second: &[u8]) -> Result<Fields, AllocError>
     ensures { IfOk result (λ fields. fields ≡ first.now ∷ second.now ∷ []) }
 {
     let mut fields = Fields::make(alloc);
@@ -123,7 +123,7 @@ fn pair(alloc: Global, first: &[u8], second: &[u8]) -> Result<Fields, AllocError
 }
 
 /// A record, and after it a number.
-fn with_number(fields: Fields, number: u64) -> Result<Fields, AllocError>
+pub(crate) fn with_number(fields: Fields, number: u64) -> Result<Fields, AllocError>
     ensures { IfOk result (λ all. all ≡ fields ++ (decimal number ∷ [])) }
 {
     let mut fields = fields;

@@ -12,14 +12,17 @@ ghost use Rattle.core_top.specs.Headline.{OneAnswerIsDue, HouseOrderIsDue, Owes}
 use answers::{Answer, Due, Line};
 use core_io::{Failed, Shelf, Sink, write_all};
 use core_margin::{order_laws, outcome_law};
+use core_report::report_law;
 use std::alloc::{AllocError, Global};
 use stop::Stop;
 
 mod answers;
 mod check;
 mod files;
+mod judged;
 mod margin;
 mod orders;
+mod report;
 mod stop;
 
 /// The answer of the command that the words are.
@@ -31,8 +34,10 @@ fn answer<S: Shelf>(alloc: Global, words: &[String], shelf: &mut S) -> Result<An
 {
     if let Some(asked) = margin::words_of(words) {
         margin::answer(alloc, shelf, &asked)
-    } else if let Some(asked) = check::words_of(words) {
+    } else if let Some(asked) = judged::words_of("check", words) {
         check::answer(alloc, shelf, &asked)
+    } else if let Some(asked) = judged::words_of("report", words) {
+        report::answer(alloc, shelf, &asked)
     } else {
         Ok(Answer::Said(Line::Usage))
     }
@@ -65,6 +70,9 @@ fn due<S: Shelf>(alloc: Global, words: &[String], shelf: &mut S) -> Result<Due, 
 /// - `check CASE CERT` judges the certificate for any case: 0 with `accepted,closes` or `accepted,cannot`, 10 with
 ///   `refused,CONDITION,PLACE` where it does not hold, 4 with `wide,check,CONDITION,PLACE` where a number of the check
 ///   leaves 128 bits.
+/// - `report CASE CERT` judges the certificate as `check` does, with its 10 and its 4, and prints the report of one that
+///   is accepted: 0; or 4 with `wide,report,SCENARIO,DAY`, by the scenario's name and the house day, where the replay of
+///   a calendar first leaves 128 bits.
 ///
 /// Any other words are answered with 2. The case is read and judged first (6 and 3), then the certificate (6 and 9), and
 /// then the work is done. The output is built first and then written to the sink (7). Where memory runs out the answer
@@ -75,7 +83,8 @@ fn due<S: Shelf>(alloc: Global, words: &[String], shelf: &mut S) -> Result<Due, 
 /// or weights showing that no calendar is admissible; the text is read as this certificate, and no place of its check
 /// fails; or why there is none. `serves`: under the rule of the least variable (Bland 1977) a budget of at least 2 to
 /// the power of the programme's rows and columns together is never answered with 5. `check`: for every case, what an
-/// accepted certificate states is so, whoever made it. `exact`: each answer is one that is due. `complete`: where
+/// accepted certificate states is so, whoever made it. `report`: the same, and the text is that certificate's report;
+/// of a calendar its loss is the worst loss in lowest terms, and its ledger the cash of the first worst scenario. `exact`: each answer is one that is due. `complete`: where
 /// nothing failed it is due by the words and the bytes alone. `causes`: what a status says by itself. `kept`,
 /// `shelf_counts`, `sink_count`: no bytes on the shelf change, and no count falls.
 pub fn core_call<S: Shelf, K: Sink>(
@@ -102,6 +111,7 @@ pub fn one_answer_law()
     ensures { OneAnswerIsDue }
 {
     outcome_law();
+    report_law();
 }
 
 /// The law of the order of the kinds in which the variables are numbered: under it exactly that is due which is due

@@ -54,12 +54,12 @@ close,2024-01-02,IND,position,2,4,1\nlimit,2024-01-02,IND,1,6,1,6\nlimit,2024-01
 ledger,DOWN,2024-01-01,0,1,0,1\nledger,DOWN,2024-01-02,0,1,0,1\nledger,DOWN,2024-01-03,-112,1,-112,1\n\
 top,1,DOWN,2024-01-03,112,1\ntop,2,DOWN,2024-01-01,0,1\ntop,3,DOWN,2024-01-02,0,1\nend\n";
 
-const SMALL_REPORT: &str =
+pub(crate) const SMALL_REPORT: &str =
     "report,closes\nloss,100,1\nmargin,100,1\ncharge,100\nclose,2024-01-02,IND,position,10,1\n\
 limit,2024-01-02,IND,10,1,10\nledger,DOWN,2024-01-01,0,1,0,1\nledger,DOWN,2024-01-02,0,1,0,1\n\
 ledger,DOWN,2024-01-03,-100,1,-100,1\ntop,1,DOWN,2024-01-03,100,1\ntop,2,DOWN,2024-01-01,0,1\ntop,3,DOWN,2024-01-02,0,1\nend\n";
 
-const SWING_CLOSING: &str = "cert,1\ncloses,10000000000000000000000000\n\
+pub(crate) const SWING_CLOSING: &str = "cert,1\ncloses,10000000000000000000000000\n\
 amount,IND,position,2,100000000000000000000000000\nloss,100000000000000000000000000000000000000\n\
 margin,100000000000000000000000000000000000000\nweights,1\nscenario,SWING,2,1\nfull,IND,position,1000000000000\nend\n";
 

@@ -1,12 +1,15 @@
 // The top call, over a shelf and a sink in memory.
-use core_case_tests::books::{LIMIT_OF_NINE, LIMIT_REFUSAL, NO_DAY_REFUSAL, SMALL, SMALL_CLOSING};
+use crate::report::{SMALL_REPORT, SWING_CLOSING};
+use core_case_tests::books::{
+    LIMIT_OF_NINE, LIMIT_REFUSAL, NO_DAY_REFUSAL, SMALL, SMALL_CLOSING, SWING,
+};
 use core_io::{MemShelf, MemSink};
 use core_top::core_call;
 use std::alloc::{AllocError, Global};
 use std::process::Abort;
 use std::test::Fail;
 
-const OTHER_WORDS: [&[&str]; 17] = [
+const OTHER_WORDS: [&[&str]; 21] = [
     &[],
     &["margin"],
     &["margin", ""],
@@ -23,6 +26,10 @@ const OTHER_WORDS: [&[&str]; 17] = [
     &["check", "", "C"],
     &["check", "C", ""],
     &["check", "C", "C", "C"],
+    &["report", "C"],
+    &["report", "", "C"],
+    &["report", "C", ""],
+    &["report", "C", "C", "C"],
     &["C", "margin"],
 ];
 
@@ -375,6 +382,30 @@ fn answers_reads_and_writes_that_fail_in_a_check(rt: HostRuntime) -> Result<(), 
             (status, want),
             "at {case}, {cert}, {read}, {room}"
         );
+    }
+    Ok(())
+}
+
+/// The report of the weights which refuse where the limit is one contract too few.
+const REFUSAL_REPORT: &str =
+    "report,cannot\nshort,1,1\nfull,IND,position,1,1\nlimit,2024-01-02,IND,1,1\nend\n";
+
+#[test]
+fn reports_a_certificate_that_passes(rt: HostRuntime) -> Result<(), Fail> {
+    let alloc = rt.alloc();
+    for (case, cert, status, want) in [
+        (SMALL, SMALL_CLOSING, 0, SMALL_REPORT),
+        (LIMIT_OF_NINE, LIMIT_REFUSAL, 0, REFUSAL_REPORT),
+        (SWING, SWING_CLOSING, 4, "wide,report,SWING,2\n"),
+        (SMALL, LIMIT_REFUSAL, 10, "refused,12,1\n"),
+        (SMALL, SMALL, 9, "bad,cert,1,1\n"),
+    ] {
+        let mut shelf = MemShelf::make(alloc);
+        shelf.put("C", case.as_bytes())?;
+        shelf.put("K", cert.as_bytes())?;
+        let sink = MemSink::make(alloc, 1000, 1000)?;
+        let said = answer(alloc, &["report", "C", "K"], &mut shelf, sink)?;
+        assert_eq!(rt; (said.0, said.1.as_str()), (status, want), "at {cert}");
     }
     Ok(())
 }
