@@ -63,7 +63,8 @@ fn report<R: Print>(rt: &R, part: &str, nanoseconds: u128) -> Result<()> {
     Ok(())
 }
 
-fn case_of(alloc: Global, bytes: &[u8]) -> Result<Case>
+/// The case of a text.
+pub fn case_of(alloc: Global, bytes: &[u8]) -> Result<Case>
     requires { length bytes.now ≤ 4194304 }
     ensures { IfOk result IsCase }
 {

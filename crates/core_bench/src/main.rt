@@ -1,18 +1,18 @@
-//! Times what its words name: `core_bench fractions`, or `core_bench reading FILE` for a file that is a case, or
-//! `core_bench book CASE CERT` for a case and a certificate of it, or `core_bench runs FILE` for a file that is a linear
-//! programme in numbers. It prints nothing without words.
+//! Times what its words name: `core_bench fractions`, or for a file that is a case `core_bench reading CASE`,
+//! `core_bench margin CASE` or `core_bench pivots KIND CASE`, or `core_bench demo` for the margin of the demo case of 32
+//! futures, or `core_bench book CASE CERT` for a case and a certificate of it. It prints nothing without words.
 #![tactic(auto)]
 
 mod books;
 mod clock;
 mod file;
-mod programme;
+mod margin;
+mod pivots;
 mod reading;
-mod runs;
 mod timing;
-mod widest;
 
 use anyhow::{Result, bail};
+use core_gen::demo_case;
 use core_io::{FileShelf, Shelf};
 use std::env;
 use std::time::CpuClock;
@@ -33,10 +33,16 @@ fn time<R: Print + AllocGlobal + CpuClock, S: Shelf>(
         [_] => Ok(()),
         [_, name] if name.as_str() == "fractions" => timing::run(rt),
         [_, name, file] if name.as_str() == "reading" => reading::run(rt, shelf, file.as_str()),
-        [_, name, file] if name.as_str() == "runs" => runs::run(rt, shelf, file.as_str()),
+        [_, name] if name.as_str() == "demo" => margin::run(rt, &demo_case(rt.alloc(), 32)?),
+        [_, name, file] if name.as_str() == "margin" => {
+            margin::run(rt, &file::file_bytes(rt.alloc(), shelf, file.as_str())?)
+        }
+        [_, name, kind, file] if name.as_str() == "pivots" => {
+            pivots::run(rt, shelf, kind.as_str(), file.as_str())
+        }
         [_, name, case, cert] if name.as_str() == "book" => {
             books::run(rt, shelf, case.as_str(), cert.as_str())
         }
-        _ => bail!("the words are `fractions`, `reading FILE`, `book CASE CERT` or `runs FILE`"),
+        _ => bail!("the words are not those of a measurement"),
     }
 }

@@ -48,63 +48,51 @@ fn fixed_to(case: &Case, flows: &Flows, day: u8) -> Option<i128>
     }
 }
 
-#[test]
-fn a_future_is_marked_up_to_the_last_price_that_is_paid(rt: HostRuntime) -> Result<(), Fail> {
-    let case = read_case(rt.alloc(), DIP.as_bytes())?;
-    let flows = Flows::make(rt.alloc(), &case)?;
-    for (closed, day, paid) in [
-        (1, 1, 0),
-        (1, 2, -10),
-        (1, 3, -10),
-        (2, 1, 0),
-        (2, 2, -10),
-        (2, 3, 5),
-    ] {
-        let unit = first_unit(&case, &flows, closed, 1, day);
-        assert_eq!(rt; unit, Some(paid), "closed on {closed}, by {day}");
-    }
-    Ok(())
-}
+/// A case, the day of a closing of its first line and its tier, a day, and what a unit has paid by then in the first
+/// scenario; none where the closing is not allowed.
+const PAID: [(&str, u8, u8, u8, Option<i128>); 24] = [
+    // A future is marked up to the last price that is paid.
+    (DIP, 1, 1, 1, Some(0)),
+    (DIP, 1, 1, 2, Some(-10)),
+    (DIP, 1, 1, 3, Some(-10)),
+    (DIP, 2, 1, 1, Some(0)),
+    (DIP, 2, 1, 2, Some(-10)),
+    (DIP, 2, 1, 3, Some(5)),
+    // A holiday delays what is paid.
+    (INTERRUPTED, 1, 1, 2, Some(0)),
+    (INTERRUPTED, 1, 1, 3, Some(20)),
+    (INTERRUPTED, 1, 1, 4, Some(20)),
+    (INTERRUPTED, 3, 1, 3, Some(20)),
+    (INTERRUPTED, 3, 1, 4, Some(60)),
+    (INTERRUPTED, 2, 1, 4, None),
+    // A security sells at the price of its closing.
+    (SHORT, 1, 1, 1, Some(0)),
+    (SHORT, 1, 1, 2, Some(-330)),
+    (SHORT, 2, 1, 2, Some(0)),
+    (SHORT, 2, 1, 3, Some(-360)),
+    // A tier costs once its closing is paid.
+    (DEEP, 1, 1, 1, Some(0)),
+    (DEEP, 1, 1, 2, Some(20)),
+    (DEEP, 1, 2, 1, Some(0)),
+    (DEEP, 1, 2, 2, Some(17)),
+    (DEEP, 1, 2, 3, Some(17)),
+    (DEEP, 1, 3, 2, None),
+    (DEEP, 2, 1, 3, Some(30)),
+    (DEEP, 2, 2, 3, None),
+];
 
 #[test]
-fn a_holiday_delays_what_is_paid(rt: HostRuntime) -> Result<(), Fail> {
-    let case = read_case(rt.alloc(), INTERRUPTED.as_bytes())?;
-    let flows = Flows::make(rt.alloc(), &case)?;
-    for (closed, day, paid) in [(1, 2, 0), (1, 3, 20), (1, 4, 20), (3, 3, 20), (3, 4, 60)] {
-        let unit = first_unit(&case, &flows, closed, 1, day);
-        assert_eq!(rt; unit, Some(paid), "closed on {closed}, by {day}");
-    }
-    assert_eq!(rt; first_unit(&case, &flows, 2, 1, 4), None);
-    Ok(())
-}
-
-#[test]
-fn a_security_sells_at_the_price_of_its_closing(rt: HostRuntime) -> Result<(), Fail> {
-    let case = read_case(rt.alloc(), SHORT.as_bytes())?;
-    let flows = Flows::make(rt.alloc(), &case)?;
-    for (closed, day, paid) in [(1, 1, 0), (1, 2, -330), (2, 2, 0), (2, 3, -360)] {
-        let unit = first_unit(&case, &flows, closed, 1, day);
-        assert_eq!(rt; unit, Some(paid), "closed on {closed}, by {day}");
-    }
-    Ok(())
-}
-
-#[test]
-fn a_tier_costs_once_its_closing_is_paid(rt: HostRuntime) -> Result<(), Fail> {
-    let case = read_case(rt.alloc(), DEEP.as_bytes())?;
-    let flows = Flows::make(rt.alloc(), &case)?;
-    for (closed, tier, day, paid) in [
-        (1, 1, 1, Some(0)),
-        (1, 1, 2, Some(20)),
-        (1, 2, 1, Some(0)),
-        (1, 2, 2, Some(17)),
-        (1, 2, 3, Some(17)),
-        (1, 3, 2, None),
-        (2, 1, 3, Some(30)),
-        (2, 2, 3, None),
-    ] {
+fn a_unit_pays_by_its_closing_and_day(rt: HostRuntime) -> Result<(), Fail> {
+    for (text, closed, tier, day, paid) in PAID {
+        assert!(rt; text.len() <= 4_194_304);
+        let case = read_case(rt.alloc(), text.as_bytes())?;
+        let flows = Flows::make(rt.alloc(), &case)?;
         let unit = first_unit(&case, &flows, closed, tier, day);
-        assert_eq!(rt; unit, paid, "closed on {closed} in {tier}, by {day}");
+        assert_eq!(rt;
+            unit,
+            paid,
+            "closed on {closed} in {tier}, by {day}, in {text}"
+        );
     }
     Ok(())
 }

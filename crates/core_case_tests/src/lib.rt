@@ -16,6 +16,4 @@ mod flows;
 #[cfg(test)]
 mod io;
 #[cfg(test)]
-mod model;
-#[cfg(test)]
 mod rows;

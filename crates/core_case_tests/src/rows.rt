@@ -1,6 +1,6 @@
-// Records, the grammars of fields, and printed rows.
-use core_rows::{Fields, day_text, name_of, put_row, records, whole, wide};
-use jiff::civil::{Date, date};
+// Records and dates. The rows of tests/rows show the grammars of numbers and names, and printed rows.
+use core_rows::{Fields, day_text, records};
+use jiff::civil::Date;
 use std::alloc::{AllocError, Global};
 use std::test::Fail;
 
@@ -37,46 +37,6 @@ fn reads_records(rt: HostRuntime) -> Result<(), Fail> {
 }
 
 #[test]
-fn reads_numbers(rt: HostRuntime) {
-    let cases: [(&[u8], Option<i64>); 9] = [
-        (b"0", Some(0)),
-        (b"-7", Some(-7)),
-        (b"9223372036854775807", Some(9_223_372_036_854_775_807)),
-        (b"007", None),
-        (b"+7", None),
-        (b"-0", None),
-        (b"", None),
-        (b"-", None),
-        (b"9223372036854775808", None),
-    ];
-    for (field, want) in cases {
-        assert_eq!(rt; whole(field), want);
-    }
-    assert_eq!(rt;
-        wide(b"-9223372036854775808"),
-        Some(-9_223_372_036_854_775_808)
-    );
-    assert_eq!(rt; wide(b"170141183460469231731687303715884105728"), None);
-}
-
-#[test]
-fn reads_names(rt: HostRuntime) {
-    for (field, is_name) in [
-        (b"IND".as_slice(), true),
-        (b"ABCDEFGHIJ12", true),
-        (b"ABCDEFGHIJ123", false),
-        (b"Ind", false),
-        (b"", false),
-    ] {
-        let name = name_of(field);
-        assert_eq!(rt; name.is_some(), is_name);
-        if let Some(name) = name {
-            assert_eq!(rt; name.bytes(), field);
-        }
-    }
-}
-
-#[test]
 fn reads_dates(rt: HostRuntime) {
     let cases: [(&[u8], i16, i8, i8); 3] = [
         (b"2024-04-26", 2024, 4, 26),
@@ -99,22 +59,4 @@ fn reads_dates(rt: HostRuntime) {
     for field in none {
         assert!(rt; day_text(field).is_none());
     }
-}
-
-#[test]
-fn rows_are_printed(rt: HostRuntime) -> Result<(), Fail> {
-    let mut first = Fields::make(rt.alloc());
-    first.push(b"amount")?;
-    first.push_number(0)?;
-    first.push_number(-14)?;
-    first.push_number(-170141183460469231731687303715884105727)?;
-    first.push_date(date(2024, 4, 26))?;
-    let mut second = Fields::make(rt.alloc());
-    second.push(b"end")?;
-    let mut out = Vec::new(rt.alloc());
-    put_row(rt.alloc(), &mut out, &first)?;
-    put_row(rt.alloc(), &mut out, &second)?;
-    let text = b"amount,0,-14,-170141183460469231731687303715884105727,2024-04-26\nend\n";
-    assert_eq!(rt; out.as_slice(), text.as_slice());
-    Ok(())
 }

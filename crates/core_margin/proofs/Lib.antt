@@ -5,4 +5,4 @@ mod Outcomes
 mod Same
 mod Numbers
 mod Certificates
-mod Margins
+pub mod Margins

@@ -17,7 +17,7 @@ use std::alloc::Global;
 
 /// The certificate of the last dictionary of a run that has ended. `TooWide` comes exactly where one of its numbers is
 /// above 2^127 - 1 in absolute value, and `NoMemory` for want of memory alone.
-pub(crate) fn last_cert<W: Store<Frac128>>(
+pub fn last_cert<W: Store<Frac128>>(
     alloc: Global,
     case: &Case,
     built: &Built,

@@ -15,6 +15,7 @@ use core_dict::start_laws;
 use core_lp::{certificate_law, rank_law};
 use core_run::{run_laws, width_laws};
 pub use fault::MarginFault;
+pub use last::last_cert;
 pub use over::{margin, margin_of_programme, margin_over};
 
 /// A case under a preference and with a budget of pivots comes to exactly one thing.

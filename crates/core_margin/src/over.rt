@@ -15,12 +15,13 @@ use crate::fault::MarginFault;
 use crate::last::last_cert;
 use crate::{run_reaches, valid_margins};
 use core_book::Case;
-use core_dict::{Dense, Store, Widen};
+use core_dict::{Store, Widen};
 use core_flows::Flows;
 use core_lp::{Built, build};
 use core_model::Cert;
 use core_rules::{Cand, Rule};
 use core_run::{Ran, run_wide};
+use core_sparse::Sparse;
 use exact_frac::{Frac64, Frac128};
 use std::alloc::Global;
 
@@ -86,7 +87,8 @@ pub fn margin_over<'a, N: Widen<W>, W: Store<Frac128>, F: Fn(&Cand, &Cand) -> bo
     margin_of_programme_over::<N, W, F>(alloc, case, &built, rule, budget)
 }
 
-/// The certificate of a case, over dense tableaus: see [`margin_over`], whose errors and claims it has.
+/// The certificate of a case, over dictionaries that keep only what is not 0: see [`margin_over`], whose errors and
+/// claims it has.
 pub fn margin<'a, F: Fn(&Cand, &Cand) -> bool>(
     alloc: Global,
     case: &Case,
@@ -105,11 +107,11 @@ pub fn margin<'a, F: Fn(&Cand, &Cand) -> bool>(
     ensures fits { IfOk result (Fits case.now) }
     ensures refusing { IfOk result IsPlainlyRefusing }
 {
-    margin_over::<Dense<Frac64>, Dense<Frac128>, F>(alloc, case, rule, budget)
+    margin_over::<Sparse<Frac64>, Sparse<Frac128>, F>(alloc, case, rule, budget)
 }
 
-/// The certificate of a case whose programme is built already, over dense tableaus: see [`margin_over`], whose errors
-/// and claims it has.
+/// The certificate of a case whose programme is built already, over dictionaries that keep only what is not 0: see
+/// [`margin_over`], whose errors and claims it has.
 pub fn margin_of_programme<'a, F: Fn(&Cand, &Cand) -> bool>(
     alloc: Global,
     case: &Case,
@@ -130,5 +132,5 @@ pub fn margin_of_programme<'a, F: Fn(&Cand, &Cand) -> bool>(
     ensures fits { IfOk result (Fits case.now) }
     ensures refusing { IfOk result IsPlainlyRefusing }
 {
-    margin_of_programme_over::<Dense<Frac64>, Dense<Frac128>, F>(alloc, case, built, rule, budget)
+    margin_of_programme_over::<Sparse<Frac64>, Sparse<Frac128>, F>(alloc, case, built, rule, budget)
 }

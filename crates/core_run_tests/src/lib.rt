@@ -9,7 +9,7 @@ mod dict;
 #[cfg(test)]
 mod duals;
 #[cfg(test)]
-mod fractions;
+mod exact;
 pub mod refuse;
 #[cfg(test)]
 mod rules;

@@ -32,7 +32,7 @@ pub(crate) const LEAVES_64: [([i64; 3], i64); 2] = [
 ];
 
 /// Two lines of collateral of the greatest sizes in two scenarios, whose second pivot leaves 128 bits.
-const LEAVES_128: [([i64; 3], i64); 6] = [
+pub(crate) const LEAVES_128: [([i64; 3], i64); 6] = [
     ([1, 0, 0], 1),
     ([0, 1, 0], 1),
     ([1, 0, 0], 1),

@@ -1,9 +1,9 @@
 // Dictionaries that keep the entries that are not 0, beside those that keep all.
 use crate::dict::pivot;
-use crate::runs::{LEAVES_64, TWO_SCENARIOS, programme, started};
-use core_dict::{Dense, PivotFault, Store, Widen};
+use crate::runs::{LEAVES_64, LEAVES_128, NEAR_62, TWO_SCENARIOS, programme, started};
+use core_dict::{Dense, PivotFault, Programme, Shift, Store, Widen};
 use core_rules::{Cand, Rule};
-use core_run::{End, run, run_wide};
+use core_run::{End, RunFault, run, run_wide};
 use core_sparse::Sparse;
 use exact_frac::{Exact, Frac64, Frac128};
 use std::alloc::{AllocError, Global};
@@ -42,6 +42,18 @@ fn the_items_of_the_start(rt: HostRuntime) -> Result<(), Fail> {
     Ok(())
 }
 
+/// The values of the rows.
+fn values_of<E: Exact, D: Store<E>>(
+    alloc: Global,
+    dict: &D,
+) -> Result<Vec<(i128, i128)>, AllocError> {
+    let mut values = Vec::with_capacity(alloc, dict.rows())?;
+    for i in 0..dict.rows() {
+        values.push(pair(dict.value(i)))?;
+    }
+    Ok(values)
+}
+
 /// Looks that two dictionaries are the same, number by number.
 fn are_same<E: Exact, A: Store<E>, B: Store<E>>(rt: &impl Abort, one: &A, other: &B) {
     assert_eq!(rt; (one.rows(), one.cols()), (other.rows(), other.cols()));
@@ -61,28 +73,82 @@ fn are_same<E: Exact, A: Store<E>, B: Store<E>>(rt: &impl Abort, one: &A, other:
     }
 }
 
-/// The run of the two scenarios over two kinds of dictionaries, from one pivot to all four.
+/// What the run of a programme comes to with a budget, over two kinds of dictionaries that are the same after each pivot.
 fn run_is_same<E: Exact, A: Store<E>, B: Store<E>>(
     rt: &impl Abort,
     alloc: Global,
-) -> Result<(), Fail> {
-    let programme = programme(rt, alloc, &TWO_SCENARIOS)?;
+    programme: &Programme,
+    most: u64,
+) -> Result<Result<End, RunFault>, Fail> {
     let rule = Rule::keep(0, |kept: &Cand, next: &Cand| next.var < kept.var);
-    for budget in 0..5 {
-        let mut one: A = started(alloc, &programme)?;
-        let mut other: B = started(alloc, &programme)?;
-        let end = run(alloc, &mut one, &rule, budget);
+    let mut end = Err(RunFault::NoMemory);
+    for budget in 0..=most {
+        let mut one: A = started(alloc, programme)?;
+        let mut other: B = started(alloc, programme)?;
+        end = run(alloc, &mut one, &rule, budget);
         assert_eq!(rt; end, run(alloc, &mut other, &rule, budget));
-        assert_eq!(rt; end == Ok(End::Optimal { pivots: 4 }), budget == 4);
         are_same(rt, &one, &other);
     }
+    Ok(end)
+}
+
+/// What that run comes to at 64 and at 128 bits, over sparse dictionaries beside dense ones.
+fn ends_of(
+    rt: &impl Abort,
+    alloc: Global,
+    programme: &Programme,
+    most: u64,
+) -> Result<(Result<End, RunFault>, Result<End, RunFault>), Fail> {
+    let narrow = run_is_same::<Frac64, Sparse<Frac64>, Dense<Frac64>>(rt, alloc, programme, most)?;
+    let wide = run_is_same::<Frac128, Sparse<Frac128>, Dense<Frac128>>(rt, alloc, programme, most)?;
+    Ok((narrow, wide))
+}
+
+#[test]
+fn runs_are_those_of_dense_dictionaries(rt: HostRuntime) -> Result<(), Fail> {
+    let alloc = rt.alloc();
+    let ends = ends_of(&rt, alloc, &programme(&rt, alloc, &TWO_SCENARIOS)?, 4)?;
+    let four = Ok(End::Optimal { pivots: 4 });
+    assert_eq!(rt; ends, (four, four));
+    let ends = ends_of(&rt, alloc, &programme(&rt, alloc, &NEAR_62)?, 3)?;
+    let three = Ok(End::Optimal { pivots: 3 });
+    assert_eq!(rt; ends, (three, three));
+    let ends = ends_of(&rt, alloc, &programme(&rt, alloc, &LEAVES_64)?, 2)?;
+    let leaves = Err(RunFault::TooWide { pivot: 1 });
+    assert_eq!(rt; ends, (leaves, Ok(End::Optimal { pivots: 2 })));
+    let ends = ends_of(&rt, alloc, &programme(&rt, alloc, &LEAVES_128)?, 2)?;
+    assert_eq!(rt; ends, (leaves, Err(RunFault::TooWide { pivot: 2 })));
     Ok(())
 }
 
 #[test]
-fn the_run_of_two_scenarios_is_that_of_a_dense_dictionary(rt: HostRuntime) -> Result<(), Fail> {
-    run_is_same::<Frac64, Sparse<Frac64>, Dense<Frac64>>(&rt, rt.alloc())?;
-    run_is_same::<Frac128, Sparse<Frac128>, Dense<Frac128>>(&rt, rt.alloc())?;
+fn a_shift_moves_each_value_by_its_slacks_coefficient(rt: HostRuntime) -> Result<(), Fail> {
+    let alloc = rt.alloc();
+    let programme = programme(&rt, alloc, &TWO_SCENARIOS)?;
+    let mut dict: Sparse<Frac128> = started(alloc, &programme)?;
+    assert!(rt; dict.rows() == 10);
+    // the slack of row 6 is basic in that row alone
+    assert_eq!(rt; dict.shift(alloc, 6, 3), Ok(()));
+    let moved = [1, -1, 1, 1, 0, 0, -7, 0, 0, -10].map(|value| (value, 1));
+    assert_eq!(rt; values_of(alloc, &dict)?.as_slice(), moved.as_slice());
+    // and after the pivot of row 6 it stands in column 0
+    assert_eq!(rt; dict.shift(alloc, 6, -3), Ok(()));
+    assert_eq!(rt; pivot(&rt, alloc, &mut dict, 6, 0), Ok(()));
+    assert!(rt; dict.rows() == 10);
+    assert_eq!(rt; dict.shift(alloc, 6, -8), Ok(()));
+    let moved = [
+        (-5, 4),
+        (5, 4),
+        (-5, 4),
+        (1, 1),
+        (18, 1),
+        (18, 1),
+        (9, 4),
+        (27, 4),
+        (27, 4),
+        (-13, 4),
+    ];
+    assert_eq!(rt; values_of(alloc, &dict)?.as_slice(), moved.as_slice());
     Ok(())
 }
 

@@ -9,3 +9,4 @@ mod Exchanged
 mod Filled
 mod Widened
 mod Started
+mod Moved

@@ -1,4 +1,5 @@
 pub mod Items
 pub mod Steps
+pub mod Moved
 pub mod Sparse
 pub mod SparseLaw

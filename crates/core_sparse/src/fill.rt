@@ -1,5 +1,5 @@
 // The parts of a new tableau.
-ghost use Rattle.std.specs.Prelude.{◌≡◌, ℕ, ◌<◌, ◌≤◌, ◌+◌, suc, IfOk, length, get_or, ◌==◌, if◌then◌else◌};
+ghost use Rattle.std.specs.Prelude.{◌≡◌, ℕ, ◌<◌, ◌≤◌, ◌+◌, suc, [], IfOk, length, get_or, ◌==◌, if◌then◌else◌};
 ghost use Rattle.fractions.specs.Fraction.{zero_q, one_q, whole};
 ghost use Rattle.core_dict.specs.Programme.{height, entry as programme_entry};
 ghost use Rattle.core_sparse.specs.Items.{number as number_of, IsKept};
@@ -12,7 +12,10 @@ use exact_frac::Exact;
 use std::alloc::{AllocError, Global};
 
 /// Room for a row, with nothing in it.
-pub fn room<E: Exact>(alloc: Global) -> Row<E> {
+pub fn room<E: Exact>(alloc: Global) -> Row<E>
+    ensures items { result.items.items ≡ [] }
+    ensures value { E.value result.value ≡ zero_q }
+{
     Row {
         items: Vec::new(alloc),
         value: E::zero(),

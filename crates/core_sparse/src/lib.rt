@@ -9,6 +9,7 @@ mod merge;
 mod numbers;
 mod own;
 mod row;
+mod shift;
 mod sparse;
 mod steps;
 mod widen;

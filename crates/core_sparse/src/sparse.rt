@@ -10,10 +10,11 @@ use crate::fill::{costs, room, slots, variables};
 use crate::find::number;
 use crate::own::own_row;
 use crate::row::{Item, Row, Slot};
+use crate::shift::{column_of, make_values, place_values};
 use crate::steps::{exchange_all, exchange_costs, make_costs, make_others};
 use crate::widen::{wide_items, wide_slots};
-use core_dict::{PivotFault, Programme, Store, Widen};
-use exact_frac::{Exact, Frac64, Frac128};
+use core_dict::{PivotFault, Programme, Shift, Store, Widen};
+use exact_frac::{Exact, Frac64, Frac128, Left};
 use std::alloc::{AllocError, Global};
 use std::mem;
 
@@ -169,5 +170,20 @@ impl Widen<Sparse<Frac128>> for Sparse<Frac64> {
             own: room(alloc),
             spare_costs: Vec::new(alloc),
         })
+    }
+}
+
+impl Shift for Sparse<Frac128> {
+    fn shift(&mut self, _alloc: Global, row: usize, by: i64) -> Result<(), PivotFault> {
+        let variable = self.nonbasic.len() + row + 1;
+        let col = column_of(&self.nonbasic, variable);
+        let by = Frac128::of_whole(by);
+        match make_values(&mut self.slots, &self.basic, variable, col, by) {
+            Ok(()) => {
+                place_values(&mut self.slots);
+                Ok(())
+            }
+            Err(Left) => Err(PivotFault::Left),
+        }
     }
 }

@@ -2,7 +2,7 @@
 use core_case::{Case, read_case};
 use core_case_tests::books::{TWO_SCENARIOS, TWO_SCENARIOS_CLOSING};
 use core_cert::write_cert;
-use core_margin::{MarginFault, margin, margin_over};
+use core_margin::{MarginFault, margin_over};
 use core_rules::{Cand, Rule};
 use core_run_tests::refuse::Refuse;
 use exact_frac::{Frac64, Frac128};
@@ -44,16 +44,5 @@ fn a_run_begins_at_64_bits_and_goes_on_at_128(rt: HostRuntime) -> Result<(), Fai
         over::<0, 0>(alloc, &wide)?,
         Err(MarginFault::Pivot { pivot: 2 })
     );
-    Ok(())
-}
-
-#[test]
-fn a_margin_over_dense_tableaus(rt: HostRuntime) -> Result<(), Fail> {
-    let alloc = rt.alloc();
-    let case = read_case(alloc, TWO_SCENARIOS.as_bytes())?;
-    let rule = Rule::keep(0, |kept: &Cand, next: &Cand| next.var < kept.var);
-    let cert = margin(alloc, &case, &rule, 4)?;
-    let text = write_cert(alloc, &case, &cert)?;
-    assert_eq!(rt; text.as_slice(), TWO_SCENARIOS_CLOSING.as_bytes());
     Ok(())
 }

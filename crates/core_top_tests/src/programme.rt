@@ -2,8 +2,8 @@
 use core_case::read_case;
 use core_case_tests::books::TWO_SCENARIOS;
 use core_flows::Flows;
-use core_lp::{Built, Col, RowName, build, ranks_of, variables};
-use std::alloc::{AllocError, Global};
+use core_lp::{Built, build, ranks_of, variables};
+use std::alloc::Global;
 use std::test::Fail;
 
 /// The rows of the programme of two scenarios: their numbers in the columns of the days 1 and 2 and of the loss, and
@@ -22,41 +22,24 @@ const ROWS: [([i64; 3], i64); 10] = [
 ];
 
 /// The names of its columns and of its rows, in their order.
-const COLS: [&str; 3] = ["close 0 1 1", "close 0 2 1", "loss"];
-
-const NAMES: [&str; 10] = [
-    "full 0",
-    "back 0",
-    "limit 0 1 1",
-    "limit 0 2 1",
-    "loss 0 1",
-    "loss 0 2",
-    "loss 0 3",
-    "loss 1 1",
-    "loss 1 2",
-    "loss 1 3",
+const COLS: [&str; 3] = [
+    "Close { line: 0, day: 1, tier: 1 }",
+    "Close { line: 0, day: 2, tier: 1 }",
+    "Loss",
 ];
 
-fn col_text(alloc: Global, col: Col) -> Result<String, AllocError> {
-    match col {
-        Col::Close { line, day, tier } => format!(in alloc; "close {line} {day} {tier}"),
-        Col::Loss => String::from_str(alloc, "loss"),
-    }
-}
-
-fn row_text(alloc: Global, row: RowName) -> Result<String, AllocError> {
-    match row {
-        RowName::Full { line } => format!(in alloc; "full {line}"),
-        RowName::Back { line } => format!(in alloc; "back {line}"),
-        RowName::Limit {
-            instrument,
-            day,
-            tier,
-        } => format!(in alloc; "limit {instrument} {day} {tier}"),
-        RowName::Pool { pool, day } => format!(in alloc; "pool {pool} {day}"),
-        RowName::Loss { scenario, day } => format!(in alloc; "loss {scenario} {day}"),
-    }
-}
+const NAMES: [&str; 10] = [
+    "Full { line: 0 }",
+    "Back { line: 0 }",
+    "Limit { instrument: 0, day: 1, tier: 1 }",
+    "Limit { instrument: 0, day: 2, tier: 1 }",
+    "Loss { scenario: 0, day: 1 }",
+    "Loss { scenario: 0, day: 2 }",
+    "Loss { scenario: 0, day: 3 }",
+    "Loss { scenario: 1, day: 1 }",
+    "Loss { scenario: 1, day: 2 }",
+    "Loss { scenario: 1, day: 3 }",
+];
 
 /// What is wrong with the columns, the rows or their numbers.
 fn fault_of(alloc: Global, built: &Built) -> Result<(), Fail> {
@@ -65,12 +48,12 @@ fn fault_of(alloc: Global, built: &Built) -> Result<(), Fail> {
         return Err(Fail::from("another size"));
     }
     for j in 0..COLS.len() {
-        if col_text(alloc, built.col(j))?.as_str() != COLS[j] {
+        if format!(in alloc; "{:?}", built.col(j))?.as_str() != COLS[j] {
             return Err(Fail::from("another column"));
         }
     }
     for i in 0..NAMES.len() {
-        if row_text(alloc, built.row(i))?.as_str() != NAMES[i] {
+        if format!(in alloc; "{:?}", built.row(i))?.as_str() != NAMES[i] {
             return Err(Fail::from("another row"));
         }
         if programme.bound(i) != ROWS[i].1 {

@@ -1,8 +1,6 @@
 // The report of a certificate.
 use core_case::read_case;
-use core_case_tests::books::{
-    BOOK, SMALL, SMALL_CLOSING, SWING, TWO_SCENARIOS, TWO_SCENARIOS_CLOSING,
-};
+use core_case_tests::books::{SMALL, SMALL_CLOSING, SWING, TWO_SCENARIOS, TWO_SCENARIOS_CLOSING};
 use core_cert::read_cert;
 use core_check::check;
 use core_report::{ReportFault, report};
