@@ -9,6 +9,8 @@ mod cert;
 #[cfg(test)]
 mod check;
 #[cfg(test)]
+mod faults;
+#[cfg(test)]
 mod margin;
 #[cfg(test)]
 mod programme;

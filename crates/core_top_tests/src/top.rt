@@ -1,7 +1,7 @@
 // The top call, over a shelf and a sink in memory.
 use crate::report::{SMALL_REPORT, SWING_CLOSING};
 use core_case_tests::books::{LIMIT_OF_NINE, LIMIT_REFUSAL, SMALL, SMALL_CLOSING, SWING};
-use core_io::{MemShelf, MemSink};
+use core_io::{MemShelf, MemSink, Shelf};
 use core_top::core_call;
 use std::alloc::{AllocError, Global};
 use std::test::Fail;
@@ -48,10 +48,10 @@ fn words_of(alloc: Global, words: &[&str]) -> Result<Vec<String>, AllocError> {
 }
 
 /// The status, and all that is written.
-fn answer(
+pub(crate) fn answer<S: Shelf>(
     alloc: Global,
     words: &[&str],
-    shelf: &mut MemShelf,
+    shelf: &mut S,
     mut sink: MemSink,
 ) -> Result<(u8, String), Fail> {
     let words = words_of(alloc, words)?;
@@ -111,12 +111,13 @@ const MOST: usize = SMALL_CLOSING.len();
 
 /// The words, the read that fails, the sink's room, its bytes a write and the write that fails, and the status and the
 /// answer; 0 is none.
-const FAILING: [(&[&str], u64, usize, usize, u64, u8, &str); 20] = [
+const FAILING: [(&[&str], u64, usize, usize, u64, u8, &str); 23] = [
     (MARGIN, 0, MOST, 10, 0, 0, SMALL_CLOSING),
     (MARGIN, 0, MOST, 1, 0, 0, SMALL_CLOSING),
     (OF_NONE, 0, 1000, 10, 0, 6, "fault,read,case\n"),
     (MARGIN, 1, 1000, 10, 0, 6, "fault,read,case\n"),
     (MARGIN, 2, 1000, 10, 0, 6, "fault,read,case\n"),
+    (MARGIN, 3, 1000, 10, 0, 0, SMALL_CLOSING),
     (MARGIN, 0, 1000, 10, 2, 7, "cert,1\nclo"),
     (MARGIN, 0, 8, 10, 0, 7, "cert,1\nc"),
     (MARGIN, 0, 0, 10, 0, 7, ""),
@@ -151,9 +152,11 @@ const FAILING: [(&[&str], u64, usize, usize, u64, u8, &str); 20] = [
         "fault,read,case\n",
     ),
     (&["check", "K", "D"], 0, 1000, 1000, 0, 3, "bad,case,1,1\n"),
+    (CHECK, 1, 1000, 1000, 0, 6, "fault,read,case\n"),
     (CHECK, 2, 1000, 1000, 0, 6, "fault,read,case\n"),
     (CHECK, 3, 1000, 1000, 0, 6, "fault,read,cert\n"),
     (CHECK, 4, 1000, 1000, 0, 6, "fault,read,cert\n"),
+    (CHECK, 5, 1000, 1000, 0, 0, "accepted,closes\n"),
     (CHECK, 0, 15, 1000, 0, 7, "accepted,closes"),
     (&["check", "C", "D"], 0, 5, 1000, 0, 7, "fault"),
 ];
