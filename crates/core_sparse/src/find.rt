@@ -6,6 +6,7 @@ use crate::row::Item;
 use exact_frac::Exact;
 
 /// The column of the item at a place, or another where there is none.
+#[inline(always)]
 pub fn column<E: Exact>(items: &[Item<E>], place: usize, past: usize) -> usize
     ensures { result ≡ get_or (columns items.now) place past }
 {
@@ -35,6 +36,7 @@ fn place_of<E: Exact>(items: &[Item<E>], col: usize) -> usize
 }
 
 /// The number in a column, for a walk that stands there, and the place where the walk goes on.
+#[inline(always)]
 pub fn take<E: Exact>(items: &[Item<E>], place: usize, col: usize) -> (E, usize)
     requires rising { IsRising items.now }
     requires stands { Stands items.now col place }

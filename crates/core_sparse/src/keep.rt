@@ -9,6 +9,7 @@ use exact_frac::Exact;
 use std::alloc::AllocError;
 
 /// Puts an item behind the others.
+#[inline(always)]
 pub fn push<E: Exact>(items: &mut Vec<Item<E>>, col: usize, value: E) -> Result<(), AllocError>
     ensures { OnOk result
         (items.new.items ≡ items.old.items ++ (record { col = col; value = value }) ∷ []) }
@@ -18,6 +19,7 @@ pub fn push<E: Exact>(items: &mut Vec<Item<E>>, col: usize, value: E) -> Result<
 }
 
 /// Puts a number behind the items of a row, where it is not 0.
+#[inline(always)]
 pub fn keep<E: Exact>(items: &mut Vec<Item<E>>, col: usize, value: E) -> Result<(), AllocError>
     requires behind { (k : ℕ) → k < length items.old.items → col_at items.old.items k < col }
     ensures kept { OnOk result ((n : ℕ) → col < n → IsKept E.value n items.old.items

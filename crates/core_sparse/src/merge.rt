@@ -14,6 +14,7 @@ use crate::row::Item;
 use exact_frac::{Exact, Left};
 
 // The number in a column afterwards, from those before and in the pivot's own row.
+#[inline(always)]
 fn number_after<E: Exact>(a: E, b: E, q: E, turned: E, is_pivot: bool) -> Result<E, Left>
     ensures exact { IfOk result (λ x. E.value x
         ≡ (if is_pivot then E.value turned else E.value a -ℚ E.value q *ℚ E.value b)) }

@@ -7,6 +7,7 @@ ghost use Rattle.core_dict.specs.Leaving.{LessTimesLeaves};
 use exact_frac::{Exact, Left};
 
 /// Whether a number is 0.
+#[inline(always)]
 pub fn is_zero<E: Exact>(x: E) -> bool
     ensures { IsTrue result ↔ (E.value x ≡ zero_q) }
 {
@@ -26,6 +27,7 @@ pub fn divided<E: Exact>(a: E, p: E) -> Result<E, Left>
 }
 
 /// a - q b, which is a where b is 0, and minus the product where a is.
+#[inline(always)]
 pub fn less_times<E: Exact>(a: E, q: E, b: E) -> Result<E, Left>
     ensures exact { IfOk result (λ x. E.value x ≡ E.value a -ℚ E.value q *ℚ E.value b) }
     ensures left { IsErr result
