@@ -11,7 +11,7 @@ use Rattle.exact_frac.proofs.Results.{is_whole, whole_parts}
 use Rattle.exact_frac.proofs.Shared.{turned_product}
 
 -- the numerator of 0
-zero_size : (q : Fraction) → q ≡ zero_q → unsigned_abs q.num ≡ 0
+pub zero_size : (q : Fraction) → q ≡ zero_q → unsigned_abs q.num ≡ 0
 unfolding zero_q
 zero_size q e = ap (λ (f : Fraction). unsigned_abs f.num) e
 
