@@ -1,9 +1,9 @@
 -- Sums of fractions over one denominator.
-use Rattle.std.proofs.Common.{◌≡◌, ◌≢◌, ℕ, ◌*◌, ◌/◌, ◌<◌, ◌≤◌, ◌⊎◌, inl, inr, ◌↔◌, ℤ, pos, ◌+ℤ◌, ◌*ℤ◌, unsigned_abs, ap, ap₂, sym, ◌∙◌, subst, arith}
+use Rattle.std.proofs.Common.{◌≡◌, ℕ, ◌*◌, ◌/◌, ◌<◌, ◌⊎◌, inl, inr, ◌↔◌, ℤ, pos, ◌+ℤ◌, ◌*ℤ◌, unsigned_abs, ap, ap₂, sym, ◌∙◌, subst, arith}
 use Rattle.std.proofs.lemmas.Int.{ints}
 use Rattle.std.proofs.Math.Nat.{mul-div_cancel, zero-div}
 use Rattle.fractions.specs.Gcd.{gcd}
-use Rattle.fractions.specs.Fraction.{Fraction, zero_q, reduce, whole, ◌+ℚ◌}
+use Rattle.fractions.specs.Fraction.{Fraction, reduce, whole, ◌+ℚ◌}
 use Rattle.fractions.specs.Leaves.{PlusLeaves, lcm, left_part, right_part}
 use Rattle.fractions.proofs.Laws.{zero_from_num}
 use Rattle.fractions.proofs.Leaves.{gcd_self, plus_over_lcm}

@@ -1,12 +1,10 @@
--- Sums and products of fractions whose denominators are 1.
-use Rattle.std.proofs.Common.{◌≡◌, ◌≢◌, ℕ, ◌*◌, ◌/◌, ◌<◌, ◌≤◌, ◌⊎◌, inl, inr, ◌↔◌, ℤ, pos, ◌+ℤ◌, ◌*ℤ◌, unsigned_abs, ap, ap₂, sym, ◌∙◌, subst, refl, arith}
-use Rattle.std.proofs.lemmas.Int.{ints, unsigned_abs-mul}
-use Rattle.fractions.specs.Gcd.{gcd}
-use Rattle.fractions.specs.Fraction.{Fraction, zero_q, whole, ◌+ℚ◌, ◌*ℚ◌}
-use Rattle.fractions.specs.Leaves.{PlusLeaves, TimesLeaves, lcm, left_part, right_part}
+-- Products of fractions whose denominators are 1.
+use Rattle.std.proofs.Common.{◌≡◌, ◌≢◌, ℕ, ◌*◌, ◌<◌, ◌≤◌, ◌⊎◌, inl, inr, ◌↔◌, ℤ, ◌*ℤ◌, unsigned_abs, ap, ap₂, sym, ◌∙◌, subst, refl, arith}
+use Rattle.std.proofs.lemmas.Int.{unsigned_abs-mul}
+use Rattle.fractions.specs.Fraction.{Fraction, zero_q, whole, ◌*ℚ◌}
+use Rattle.fractions.specs.Leaves.{TimesLeaves}
 use Rattle.fractions.proofs.Leaves.{TimesLeaves_iff}
-use Rattle.fractions.proofs.Whole.{whole-plus, whole-times}
-use Rattle.exact_frac.specs.Within.{IsWithin}
+use Rattle.fractions.proofs.Whole.{whole-times}
 use Rattle.exact_frac.proofs.Results.{is_whole, whole_parts}
 use Rattle.exact_frac.proofs.Shared.{turned_product}
 
@@ -16,11 +14,7 @@ unfolding zero_q
 zero_size q e = ap (λ (f : Fraction). unsigned_abs f.num) e
 
 module _ (q r : Fraction) (first : q.den ≡ 1) (second : r.den ≡ 1) where
-  -- the sum of the numerators is the sum
-  pub integer_plus : (f : Fraction) → f.num ≡ q.num +ℤ r.num → f.den ≡ 1 → f ≡ q +ℚ r
-  integer_plus f e d = is_whole f (q.num +ℤ r.num) e d ∙ whole-plus q.num r.num ∙ sym (ap₂ ◌+ℚ◌ (is_whole q q.num refl first) (is_whole r r.num refl second))
-
-  -- their product is the product
+  -- the product of the numerators is the product
   pub integer_times : (f : Fraction) → f.num ≡ q.num *ℤ r.num → f.den ≡ 1 → f ≡ q *ℚ r
   integer_times f e d = is_whole f (q.num *ℤ r.num) e d ∙ whole-times q.num r.num ∙ sym (ap₂ ◌*ℚ◌ (is_whole q q.num refl first) (is_whole r r.num refl second))
 
@@ -29,19 +23,6 @@ module _ (q r : Fraction) (first : q.den ≡ 1) (second : r.den ≡ 1) where
   times_parts =
       let e : q *ℚ r ≡ whole (q.num *ℤ r.num) = ap₂ ◌*ℚ◌ (is_whole q q.num refl first) (is_whole r r.num refl second) ∙ sym (whole-times q.num r.num) in
       (ap (λ (f : Fraction). f.num) e ∙ (whole_parts (q.num *ℤ r.num)).0, ap (λ (f : Fraction). f.den) e ∙ (whole_parts (q.num *ℤ r.num)).1)
-
-  -- both denominators are their least common multiple
-  lcm_one : lcm q.den r.den ≡ 1
-  unfolding gcd
-  lcm_one = ap₂ lcm first second
-
-  -- the first numerator stays as it is
-  left_same : left_part q r ≡ q.num
-  left_same = let one : lcm q.den r.den / q.den ≡ 1 = ap₂ ◌/◌ lcm_one first in grind (arith, ints, ap (λ (n : ℕ). q.num *ℤ pos n) one)
-
-  -- and the second one
-  right_same : right_part q r ≡ r.num
-  right_same = let one : lcm q.den r.den / r.den ≡ 1 = ap₂ ◌/◌ lcm_one second in grind (arith, ints, ap (λ (n : ℕ). r.num *ℤ pos n) one)
 
   module _ (most : ℕ) where
     -- a product that is too large leaves
@@ -61,20 +42,3 @@ module _ (q r : Fraction) (first : q.den ≡ 1) (second : r.den ≡ 1) where
           where
             zero_times : {n : ℕ} (k : ℕ) → n ≡ 0 * k → most < n → ⊥
             zero_times k e l = omega (arith, e, l)
-
-    -- a sum that is too large leaves
-    pub integer_plus_leaves : IsWithin most q → IsWithin most r → PlusLeaves most q r ↔ (most < unsigned_abs (q.num +ℤ r.num))
-    integer_plus_leaves in_q in_r = (λ t. too_large t.too_large, leaves)
-      where
-        too_large : ((most < lcm q.den r.den) ⊎ (most < unsigned_abs (left_part q r))) ⊎ ((most < unsigned_abs (right_part q r)) ⊎ (most < unsigned_abs (left_part q r +ℤ right_part q r))) → most < unsigned_abs (q.num +ℤ r.num)
-        too_large (inl (inl l)) = absurd (omega (arith, l, lcm_one, first, in_q.den_in))
-        too_large (inl (inr l)) = absurd (omega (arith, l, ap unsigned_abs left_same, in_q.num_in))
-        too_large (inr (inl l)) = absurd (omega (arith, l, ap unsigned_abs right_same, in_r.num_in))
-        too_large (inr (inr l)) = subst (λ (z : ℤ). most < unsigned_abs z) (ap₂ ◌+ℤ◌ left_same right_same) l
-
-        leaves : most < unsigned_abs (q.num +ℤ r.num) → PlusLeaves most q r
-        leaves l = record {
-          left_not_zero = λ e. grind (arith, ints, zero_size q e, in_r.num_in, l);
-          right_not_zero = λ e. grind (arith, ints, zero_size r e, in_q.num_in, l);
-          too_large = inr (inr (subst (λ (z : ℤ). most < unsigned_abs z) (sym (ap₂ ◌+ℤ◌ left_same right_same)) l));
-        }

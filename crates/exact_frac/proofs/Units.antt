@@ -1,5 +1,5 @@
 -- Products with 1 and -1.
-use Rattle.std.proofs.Common.{◌≡◌, ◌≢◌, ℕ, zero, suc, ◌<◌, ◌⊎◌, inl, inr, ℤ, pos, negsuc, neg_ℤ, Bool, true, false, if◌then◌else◌, unsigned_abs, ap, ap₂, sym, ◌∙◌, subst, refl, arith}
+use Rattle.std.proofs.Common.{◌≡◌, ℕ, ◌<◌, ◌⊎◌, inl, inr, ℤ, pos, negsuc, neg_ℤ, Bool, true, false, if◌then◌else◌, unsigned_abs, ap, sym, ◌∙◌, subst, refl, arith}
 use Rattle.std.specs.Int.{is_negative}
 use Rattle.fractions.specs.Fraction.{Fraction, one_q, neg_ℚ, ◌*ℚ◌}
 use Rattle.fractions.specs.Leaves.{TimesLeaves}
