@@ -32,6 +32,7 @@ fn divided<E: Exact>(a: E, p: E) -> Result<E, Left>
 }
 
 // a - q b, which is a where b is 0.
+#[inline(always)]
 fn less_times<E: Exact>(a: E, q: E, b: E) -> Result<E, Left>
     ensures exact { IfOk result (λ x. E.value x ≡ E.value a -ℚ E.value q *ℚ E.value b) }
     ensures left { IsErr result

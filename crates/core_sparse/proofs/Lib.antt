@@ -1,5 +1,6 @@
 mod Places
 mod Walks
+mod Copying
 mod Merging
 mod Others
 mod Dividing

@@ -7,7 +7,7 @@ use Rattle.core_dict.specs.Leaving.{LessTimesLeaves}
 use Rattle.core_dict.proofs.Choice.{at_other}
 use Rattle.core_dict.proofs.Reading.{less_zero, no_leaving}
 use Rattle.core_sparse.specs.Items.{columns, col_at, number, IsRising, IsKept, Stands}
-use Rattle.core_sparse.specs.Steps.{merged}
+use Rattle.core_sparse.specs.Steps.{merged, IsCopied}
 use Rattle.core_sparse.specs.SparseLaw.{number_none}
 use Rattle.core_sparse.specs.declared.row.Item.{Item}
 use Rattle.core_sparse.proofs.Places.{kept_none}
@@ -23,43 +23,30 @@ module _ {E : Type 0} (most : ℕ) (read : E → Fraction) (n : ℕ) (xs os : Li
     pub exact : (m : ℕ) → m < j → number read ys m ≡ merged s q t (number read xs) (number read os) m
     pub fits : (m : ℕ) → m < j → m ≢ s → LessTimesLeaves most (number read xs m) q (number read os m) → ⊥
 
-  module _ (rising : IsRising xs) (own_rising : IsRising os) (turned : number read os s ≢ zero_q) where
-    -- the walks go on to the next column at which there is an item
-    pub merged_on : (ys : List (Item E)) (c i k r : ℕ) → Merged ys c i k → c ≤ n
-        → r ≡ min (get_or (columns xs) i n) (get_or (columns os) k n) → Merged ys r i k
-    merged_on ys c i k r h l e = record {
-      before = before;
+  module _ (own_rising : IsRising os) (turned : number read os s ≢ zero_q) where
+    -- the items before the next one of the own row are copied
+    pub merged_run : (ys zs : List (Item E)) (c i k r e : ℕ) → Merged ys c i k → c ≤ n
+        → IsCopied read n xs c r ys zs e → r ≡ get_or (columns os) k n → Merged zs r e k
+    merged_run ys zs c i k r e h l copied is = record {
+      before = copied.stands;
       own = own;
-      kept = h.kept;
-      below = λ m o. let b : col_at ys m < c = h.below m o in omega (arith, b, on);
+      kept = copied.kept;
+      below = copied.below;
       exact = λ m o. exact m o (cases_lt m c);
       fits = λ m o. fits m o (cases_lt m c);
     }
       where
-        from : c ≤ get_or (columns xs) i n
-        from = head_from xs n c i l h.before
-
-        own_from : c ≤ get_or (columns os) k n
-        own_from = head_from os n c k l h.own
-
-        on : c ≤ r
-        on = omega (arith, from, own_from, e)
-
-        before : Stands xs r i
-        before = stands_on xs n c i r rising h.before on (omega (arith, e))
-
         own : Stands os r k
-        own = stands_on os n c k r own_rising h.own on (omega (arith, e))
+        own = stands_on os n c k r own_rising h.own copied.order (omega (arith, is))
 
         free : (m : ℕ) → c ≤ m → m < r → number read os m ≡ zero_q
         free m o p = number_between os read c k r h.own own m o p
 
         exact : (m : ℕ) → m < r → (m < c) ⊎ (c ≤ m)
-            → number read ys m ≡ merged s q t (number read xs) (number read os) m
-        exact m o (inl p) = h.exact m p
+            → number read zs m ≡ merged s q t (number read xs) (number read os) m
+        exact m o (inl p) = copied.old m p ∙ h.exact m p
         exact m o (inr p) =
-            number_none read ys m (λ w u f. let b : col_at ys w < c = h.below w u in omega (arith, b, p, f))
-            ∙ sym (number_between xs read c i r h.before before m p o)
+            copied.run m p o
             ∙ less_zero (number read xs m) q (number read os m) (free m p o)
             ∙ sym (at_other m s t _ (λ f. turned (ap (number read os) (sym f) ∙ free m p o)))
 
@@ -68,18 +55,16 @@ module _ {E : Type 0} (most : ℕ) (read : E → Fraction) (n : ℕ) (xs os : Li
         fits m o (inl p) ne = h.fits m p ne
         fits m o (inr p) ne = no_leaving most _ q _ (inr (free m p o))
 
-    -- as they do at the beginning
-    pub merged_first : (r : ℕ) → r ≡ min (get_or (columns xs) 0 n) (get_or (columns os) 0 n) → Merged [] r 0 0
-    merged_first r e = merged_on [] 0 0 0 r
-        record {
-          before = stands_first xs;
-          own = stands_first os;
-          kept = kept_none read n;
-          below = λ m l. absurd (omega arith);
-          exact = λ m l. absurd (omega arith);
-          fits = λ m l. absurd (omega arith);
-        }
-        (omega arith) e
+  -- at the beginning nothing is merged
+  pub merged_none : Merged [] 0 0 0
+  merged_none = record {
+    before = stands_first xs;
+    own = stands_first os;
+    kept = kept_none read n;
+    below = λ m l. absurd (omega arith);
+    exact = λ m l. absurd (omega arith);
+    fits = λ m l. absurd (omega arith);
+  }
 
   -- one more column is merged
   pub merged_more : (ys zs : List (Item E)) (j i k i' k' : ℕ) → Merged ys j i k → Stands xs (suc j) i'

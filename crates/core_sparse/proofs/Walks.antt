@@ -34,6 +34,17 @@ module _ {E : Type 0} (xs : List (Item E)) where
           (sym (get_or_past (columns xs) i n
           (subst (λ (j : ℕ). j ≤ i) (sym (length-map xs (λ (x : Item E). x.col))) m))) l
 
+  -- that column is within the columns
+  pub head_most : (n i : ℕ) → ((k : ℕ) → k < length xs → col_at xs k < n) → get_or (columns xs) i n ≤ n
+  head_most n i h = by (cases_lt i (length xs))
+    where
+      by : (i < length xs) ⊎ (length xs ≤ i) → get_or (columns xs) i n ≤ n
+      by (inl m) = let b : col_at xs i < n = h i m in let e = head_within n i m in omega (arith, b, e)
+      by (inr m) =
+          let e = get_or_past (columns xs) i n
+          (subst (λ (j : ℕ). j ≤ i) (sym (length-map xs (λ (x : Item E). x.col))) m) in
+          omega (arith, e)
+
   -- the next column at which one of two walks is, where c is not past either
   pub next_from : (os : List (Item E)) (n c i k r : ℕ) → c ≤ n → Stands xs c i → c ≤ get_or (columns os) k n
       → r ≡ min (get_or (columns xs) i n) (get_or (columns os) k n) → c ≤ r

@@ -1,11 +1,11 @@
 -- What the steps of a pivot make of the rows, and when one of their operations leaves a type.
-use Rattle.std.specs.Prelude.{◌≡◌, ◌≢◌, ℕ, ◌<◌, ◌==◌, List, length, map, get_or, if◌then◌else◌}
+use Rattle.std.specs.Prelude.{◌≡◌, ◌≢◌, ℕ, ◌<◌, ◌≤◌, ◌==◌, List, length, map, get_or, if◌then◌else◌}
 use Rattle.fractions.specs.Fraction.{Fraction, zero_q, one_q, ◌-ℚ◌, ◌*ℚ◌, ◌/ℚ◌, whole}
 use Rattle.fractions.specs.Leaves.{OverLeaves}
 use Rattle.core_dict.specs.Leaving.{LessTimesLeaves}
 use Rattle.core_dict.specs.Programme.{ProgrammeView, height, entry, bound}
 use Rattle.core_dict.specs.Rows.{divided_entry, entry_after, EntriesLeave}
-use Rattle.core_sparse.specs.Items.{number, columns, col_at, value_at, IsKept}
+use Rattle.core_sparse.specs.Items.{number, columns, col_at, value_at, IsKept, Stands}
 use Rattle.core_sparse.specs.declared.row.Item.{Item}
 use Rattle.core_sparse.specs.declared.row.Row.{Row}
 use Rattle.core_sparse.specs.declared.row.Slot.{Slot}
@@ -45,6 +45,20 @@ pub data OwnRowLeaves {E : Type 0} (most : ℕ) (read : E → Fraction) (n s : �
 -- a number of it afterwards, where q was in the pivot's column and t is there afterwards
 abbrev pub merged : ℕ → Fraction → Fraction → (ℕ → Fraction) → (ℕ → Fraction) → ℕ → Fraction
 merged s q t a own j = if j == s then t else a j -ℚ q *ℚ own j
+
+-- the items stand before a column
+abbrev pub AreBefore : {E : Type 0} → ℕ → List (Item E) → Type 0
+AreBefore c xs = (k : ℕ) → k < length xs → col_at xs k < c
+
+-- zs is ys with the items of xs from a column to before another, and place e of xs stands at the latter
+pub record IsCopied {E : Type 0} (read : E → Fraction) (n : ℕ) (xs : List (Item E)) (from until : ℕ)
+    (ys zs : List (Item E)) (e : ℕ) : Type 0 where
+  pub order : from ≤ until
+  pub stands : Stands xs until e
+  pub kept : IsKept read n zs
+  pub below : AreBefore until zs
+  pub old : (j : ℕ) → j < from → number read zs j ≡ number read ys j
+  pub run : (j : ℕ) → from ≤ j → j < until → number read zs j ≡ number read xs j
 
 -- the items afterwards
 pub record AreAfter {E : Type 0} (read : E → Fraction) (n : ℕ) (p : Fraction) (s : ℕ) (own before after : List (Item E))

@@ -1,10 +1,10 @@
 // The items of a row from those of two rows, by rising column.
-ghost use Rattle.std.specs.Prelude.{◌≡◌, ◌≢◌, ◌↔◌, ℕ, ◌<◌, [], false, if◌then◌else◌};
+ghost use Rattle.std.specs.Prelude.{◌≡◌, ◌≢◌, ◌↔◌, ℕ, ◌<◌, ◌≤◌, [], false, if◌then◌else◌};
 ghost use Rattle.std.specs.Prelude.{OnOk, Err, IfOk, IsErr, unsigned_abs};
 ghost use Rattle.fractions.specs.Fraction.{zero_q, ◌-ℚ◌, ◌*ℚ◌};
 ghost use Rattle.core_dict.specs.Leaving.{LessTimesLeaves};
-ghost use Rattle.core_sparse.specs.Items.{number as number_of, IsKept};
-ghost use Rattle.core_sparse.specs.Steps.{merged};
+ghost use Rattle.core_sparse.specs.Items.{number as number_of, IsKept, Stands};
+ghost use Rattle.core_sparse.specs.Steps.{merged, AreBefore, IsCopied};
 
 use crate::fault::Fault;
 use crate::find::{column, take};
@@ -12,6 +12,7 @@ use crate::keep::keep;
 use crate::numbers::less_times;
 use crate::row::Item;
 use exact_frac::{Exact, Left};
+use std::alloc::AllocError;
 
 // The number in a column afterwards, from those before and in the pivot's own row.
 #[inline(always)]
@@ -25,6 +26,37 @@ fn number_after<E: Exact>(a: E, b: E, q: E, turned: E, is_pivot: bool) -> Result
         return Ok(turned);
     }
     less_times(a, q, b)
+}
+
+// Puts the items of a row that stand before a column behind others, for a walk that stands at the
+// column `from` and a place, and answers the place where it stands then.
+#[inline(always)]
+fn copied<E: Exact>(
+    before: &[Item<E>],
+    place: usize,
+    from: usize,
+    until: usize,
+    cols: usize,
+    after: &mut Vec<Item<E>>,
+) -> Result<usize, AllocError>
+    requires before { IsKept E.value cols before.now }
+    requires stands { Stands before.now from place }
+    requires kept { IsKept E.value cols after.old.items }
+    requires below { AreBefore from after.old.items }
+    requires order { from ≤ until }
+    requires until { until ≤ cols }
+    ensures { IfOk result
+        (IsCopied E.value cols before.now from until after.old.items after.new.items) }
+{
+    let mut place = place;
+    let mut j = column(before, place, until).min(until);
+    while j < until {
+        let (a, next) = take(before, place, j);
+        keep(after, j, a)?;
+        place = next;
+        j = column(before, place, until).min(until);
+    }
+    Ok(place)
 }
 
 /// Each number less q times the pivot's own one, and `turned` in the pivot's column.
@@ -53,17 +85,18 @@ pub fn merge<E: Exact>(
         (number_of E.value own.now j) }
 {
     after.reserve(before.len() + own.len())?;
-    let mut i = 0;
     let mut k = 0;
-    let mut j = column(before, 0, cols).min(column(own, 0, cols));
+    let mut j = column(own, 0, cols);
+    let mut i = copied(before, 0, 0, j, cols, after)?;
     while j < cols {
         let (a, next) = take(before, i, j);
         let (b, next_own) = take(own, k, j);
         let value = number_after(a, b, q, turned, j == col)?;
         keep(after, j, value)?;
-        i = next;
+        let from = j + 1;
         k = next_own;
-        j = column(before, i, cols).min(column(own, k, cols));
+        j = column(own, k, cols);
+        i = copied(before, next, from, j, cols, after)?;
     }
     Ok(())
 }
