@@ -22,11 +22,11 @@ fn minus_fixed(weights: &WeightsAndFlows, sum: i128, place: usize) -> Option<i12
         (neg_ℤ (at weights.now.of_case.weights.scenario place
         *ℤ fixed weights.now.of_case.case (house_day_at_place weights.now.of_case.case place))) }
 {
-    let case = weights.of_case.case();
     let weight = number(&weights.of_case.weights().scenario, place);
     if weight == 0 {
         return plus(sum, 0);
     }
+    let case = weights.of_case.case();
     let on = scenario_cell(case, case.scenarios(), place);
     minus_product(sum, weight, weights.flows.fixed(on.day))
 }
@@ -53,11 +53,11 @@ fn minus_limit(weights: &CaseWeights, sum: i128, place: usize) -> Option<i128>
         (day_at_place weights.now.case place) (tier_at_place weights.now.case place)
         *ℤ at weights.now.weights.limit place)) }
 {
-    let case = weights.case();
     let weight = number(&weights.weights().limit, place);
     if weight == 0 {
         return plus(sum, 0);
     }
+    let case = weights.case();
     let cell = closing_cell(case, case.instruments(), place);
     let limit = case.limit(cell.row, cell.day, cell.tier);
     minus_product(sum, i128::from(limit), weight)
@@ -70,11 +70,11 @@ fn minus_cap(weights: &CaseWeights, sum: i128, place: usize) -> Option<i128>
         (neg_ℤ ((pool weights.now.case (pool_at_place weights.now.case place)).cap
         *ℤ at weights.now.weights.pool place)) }
 {
-    let case = weights.case();
     let weight = number(&weights.weights().pool, place);
     if weight == 0 {
         return plus(sum, 0);
     }
+    let case = weights.case();
     let cell = pool_cell(case, case.pools(), place);
     minus_product(sum, i128::from(case.pool(cell.row).cap), weight)
 }

@@ -27,22 +27,18 @@ fn plus_closing(calendar: &CalendarAndFlows, on: DayCell, sum: i128, place: usiz
         (cash_step calendar.now.of_case.case (planned calendar.now.of_case) on.row on.day place)
         (cash_step calendar.now.of_case.case (planned calendar.now.of_case) on.row on.day place) }
 {
-    let case = calendar.of_case.case();
     let amount = number(&calendar.of_case.calendar().amounts, place);
     if amount == 0 {
         return Some(sum);
     }
+    let case = calendar.of_case.case();
     let cell = closing_cell(case, case.lines(), place);
     if !case.allowed(cell.row, cell.day, cell.tier) {
         return Some(sum);
     }
-    plus_product(
-        sum,
-        amount,
-        calendar
-            .flows
-            .unit(cell.row, on.row, cell.day, cell.tier, on.day),
-    )
+    let flows = calendar.flows;
+    let paid = flows.unit(cell.row, on.row, cell.day, cell.tier, on.day);
+    plus_product(sum, amount, paid)
 }
 
 /// The cash of a scenario on a house day, as a numerator, or None where a number leaves.

@@ -44,19 +44,15 @@ fn minus_unit(weights: &WeightsAndFlows, cell: ClosingCell, sum: i128, place: us
         (unit_charge weights.now.of_case.case weights.now.of_case.weights
         cell.row cell.day cell.tier place) }
 {
-    let case = weights.of_case.case();
     let weight = number(&weights.of_case.weights().scenario, place);
     if weight == 0 {
         return plus(sum, 0);
     }
+    let case = weights.of_case.case();
     let on = scenario_cell(case, case.scenarios(), place);
-    minus_product(
-        sum,
-        weight,
-        weights
-            .flows
-            .unit(cell.row, on.row, cell.day, cell.tier, on.day),
-    )
+    let flows = weights.flows;
+    let paid = flows.unit(cell.row, on.row, cell.day, cell.tier, on.day);
+    minus_product(sum, weight, paid)
 }
 
 /// What the weights of limit and pools charge one unit of an instrument that is closed on a day in a tier, or None

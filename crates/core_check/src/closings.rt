@@ -1,5 +1,5 @@
 // The conditions on what a calendar closes: its signs, what is allowed, whole lines, limits and pools.
-ghost use Rattle.std.specs.Prelude.{◌≡◌, ◌*◌, ◌<◌, ◌∷◌, [], ◌||◌, pos, ◌==◌, length, map, if◌then◌else◌, Some};
+ghost use Rattle.std.specs.Prelude.{◌≡◌, ◌*ℤ◌, ◌*◌, ◌<◌, ◌∷◌, [], ◌||◌, pos, ◌==◌, length, map, if◌then◌else◌, MatchOption, Some};
 ghost use Rattle.std.specs.Ordering.{int_eq};
 ghost use Rattle.core_sums.specs.Places.{at, days_to};
 ghost use Rattle.core_book.specs.View.{instrument_of, is_allowed, line, tiers};
@@ -9,7 +9,7 @@ ghost use Rattle.core_model.specs.OfCase.{planned};
 ghost use Rattle.core_model.specs.Check.{allowed_test, by_closing, by_day_and_tier, by_limit, by_line, by_pool_and_day, closes_line, full_test, limit_test, places_of, pool_numbers, pool_terms, pool_test, sign_test, tier_closings};
 ghost use Rattle.core_model.specs.declared.condition.Condition.TheVariants.{AllowedClosings, AmountSigns, Caps, FullClosings, Limits};
 ghost use Rattle.core_check.specs.Answers.{answer};
-ghost use Rattle.core_wide.specs.Steps.{summed, with_number};
+ghost use Rattle.core_wide.specs.Steps.{Leaves, Stays, summed, with_number};
 ghost use Rattle.core_check.specs.Steps.{closings_of, judged, pooled_numbers, pooled_step};
 
 use crate::fault::CheckFault;
@@ -40,10 +40,10 @@ fn is_allowed(calendar: &CaseCalendar, place: usize) -> bool
         (tier_at_place calendar.now.case place)
         || int_eq (at calendar.now.calendar.amounts place) (pos 0)) }
 {
-    let case = calendar.case();
     if number(&calendar.calendar().amounts, place) == 0 {
         return true;
     }
+    let case = calendar.case();
     let cell = closing_cell(case, case.lines(), place);
     case.allowed(cell.row, cell.day, cell.tier)
 }
@@ -85,6 +85,15 @@ fn line_closed(calendar: &CaseCalendar, l: usize) -> Option<i128>
     })
 }
 
+/// A number of the case over the calendar's denominator, or None where it leaves.
+fn over_den(calendar: &CaseCalendar, number: i64) -> Option<i128>
+    ensures { MatchOption result (Leaves (number *ℤ calendar.now.calendar.den))
+        (λ product. (product ≡ number *ℤ calendar.now.calendar.den)
+        × Stays (number *ℤ calendar.now.calendar.den)) }
+{
+    times(i128::from(number), calendar.calendar().den)
+}
+
 /// Whether a sum closes a line: a position in full, collateral at most in full.
 fn closes(side: Side, closed: i128, whole: i128) -> bool
     ensures { result ≡ closes_line side closed whole }
@@ -103,7 +112,7 @@ fn is_closed(calendar: &CaseCalendar, l: usize) -> Option<bool>
     let case = calendar.case();
     let line = case.line(l);
     let closed = line_closed(calendar, l)?;
-    let whole = times(i128::from(line.amount), calendar.calendar().den)?;
+    let whole = over_den(calendar, line.amount)?;
     Some(closes(line.side, closed, whole))
 }
 
@@ -162,7 +171,7 @@ fn is_within_limit(calendar: &CaseCalendar, cell: ClosingCell) -> Option<bool>
     }
     let limit = case.limit(cell.row, cell.day, cell.tier);
     let closed = tier_closed(calendar, cell)?;
-    let most = times(i128::from(limit), calendar.calendar().den)?;
+    let most = over_den(calendar, limit)?;
     Some(closed <= most)
 }
 
@@ -269,7 +278,7 @@ fn is_within_cap(calendar: &CaseCalendar, place: usize) -> Option<bool>
     let case = calendar.case();
     let cell = pool_cell(case, case.pools(), place);
     let closed = pool_closed(calendar, cell.row, cell.day)?;
-    let most = times(i128::from(case.pool(cell.row).cap), calendar.calendar().den)?;
+    let most = over_den(calendar, case.pool(cell.row).cap)?;
     Some(closed <= most)
 }
 

@@ -16,7 +16,6 @@ pub returns-then-amount-eq0 : goal.returns-then-amount-eq0
 returns-then-amount-eq0 c =
     let fits : FitsSigned w128 c.args.sum = c.ranges.sum in
     let case = c.args.calendar.now.of_case.case in
-    let same = c.case-case.ensures.value in
     let x = c.args.calendar.now.of_case.calendar in
     let held = c.calendar.ensures.value in
     let n = c.args.place in
@@ -41,7 +40,7 @@ pub returns : goal.returns
 returns c =
     let fits : FitsSigned w128 c.args.sum = c.ranges.sum in
     let amount_fits : FitsSigned w128 c.number-amount.result = search rules in
-    let unit_fits : FitsSigned w128 c.unit.result = search rules in
+    let unit_fits : FitsSigned w128 c.unit-paid.result = search rules in
     let case = c.args.calendar.now.of_case.case in
     let same = c.case-case.ensures.value in
     let a = plan_of case c.args.calendar.now.of_case.calendar in
@@ -56,13 +55,13 @@ returns c =
     let some : here ≡ pos 0 → ⊥ = λ none. c.if-amount-eq0.false (ap (of_z w128) (amount ∙ none)) in
     let allowed : is_allowed case (row_at_place case n) (day_at_place case n) (tier_at_place case n) ≡ true =
     sym (closing-at case c.lines.result n cell (is_allowed case) is) ∙ sym (rw same at c.allowed.ensures) ∙ c.if-not-allowed.false in
-    let pays : c.unit.result ≡ unit case (row_at_place case n) k (day_at_place case n) (tier_at_place case n) t =
-    c.unit.ensures.value
+    let pays : c.unit-paid.result ≡ unit case (row_at_place case n) k (day_at_place case n) (tier_at_place case n) t =
+    c.unit-paid.ensures.value
     ∙ ap (λ (x : _). unit x cell.row k cell.day cell.tier t) c.args.calendar.now.same_case
     ∙ closing-at case c.lines.result n cell (λ l u j. unit case l k u j t) is in
     let step = closing_step-paid case a k t (row_at_place case n) (day_at_place case n) (tier_at_place case n) some allowed in
     let product = simp to_z-of_z at c.plus_product.ensures in
     product
-    ∙ ap (λ (z : ℤ). with_product c.args.sum (z *ℤ c.unit.result)) amount
+    ∙ ap (λ (z : ℤ). with_product c.args.sum (z *ℤ c.unit-paid.result)) amount
     ∙ ap (λ (z : ℤ). with_product c.args.sum (here *ℤ z)) pays
     ∙ sym (ap (λ zs. summed c.args.sum zs zs) step)

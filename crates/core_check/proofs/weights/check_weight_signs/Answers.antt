@@ -10,51 +10,37 @@ use Rattle.core_model.specs.declared.condition.Condition.TheVariants.{WeightSign
 
 pub overflow_cast-limits : goal.overflow_cast-limits
 overflow_cast-limits c =
-    let listed = c.weights-listed.result.now in
-    let fits = rw (← c.weights-listed.ensures.value) at c.weights-listed.ensures.fits in
-    let few = weights-few c.args.weights.now.case listed c.case-case.ensures.kept fits in
+    let few = rw (← c.weights-listed.ensures.value) at (weights-few _ _ c.case-case.ensures.kept c.case-case.ensures.fits) in
     omega (arith, few, c.len-limits.ensures)
 
 pub check_not_negative-requires-2 : goal.check_not_negative-requires-2
 check_not_negative-requires-2 c =
-    let listed = c.weights-listed.result.now in
-    let fits = rw (← c.weights-listed.ensures.value) at c.weights-listed.ensures.fits in
-    let few = weights-few c.args.weights.now.case listed c.case-case.ensures.kept fits in
+    let few = rw (← c.weights-listed.ensures.value) at (weights-few _ _ c.case-case.ensures.kept c.case-case.ensures.fits) in
     omega (arith, few, c.len-scenarios.ensures)
 
 pub overflow_add-scenarios : goal.overflow_add-scenarios
 overflow_add-scenarios c =
-    let listed = c.weights-listed.result.now in
-    let fits = rw (← c.weights-listed.ensures.value) at c.weights-listed.ensures.fits in
-    let few = weights-few c.args.weights.now.case listed c.case-case.ensures.kept fits in
+    let few = rw (← c.weights-listed.ensures.value) at (weights-few _ _ c.case-case.ensures.kept c.case-case.ensures.fits) in
     omega (arith, few, c.len-scenarios.ensures, c.len-limits.ensures)
 
 pub check_not_negative-requires-3 : goal.check_not_negative-requires-3
 check_not_negative-requires-3 c =
-    let listed = c.weights-listed.result.now in
-    let fits = rw (← c.weights-listed.ensures.value) at c.weights-listed.ensures.fits in
-    let few = weights-few c.args.weights.now.case listed c.case-case.ensures.kept fits in
+    let few = rw (← c.weights-listed.ensures.value) at (weights-few _ _ c.case-case.ensures.kept c.case-case.ensures.fits) in
     omega (arith, few, c.len-scenarios.ensures, c.len-limits.ensures)
 
 pub overflow_add-scenarios-3 : goal.overflow_add-scenarios-3
 overflow_add-scenarios-3 c =
-    let listed = c.weights-listed.result.now in
-    let fits = rw (← c.weights-listed.ensures.value) at c.weights-listed.ensures.fits in
-    let few = weights-few c.args.weights.now.case listed c.case-case.ensures.kept fits in
+    let few = rw (← c.weights-listed.ensures.value) at (weights-few _ _ c.case-case.ensures.kept c.case-case.ensures.fits) in
     omega (arith, few, c.len-scenarios.ensures, c.len-limits.ensures)
 
 pub overflow_add-scenarios-4 : goal.overflow_add-scenarios-4
 overflow_add-scenarios-4 c =
-    let listed = c.weights-listed.result.now in
-    let fits = rw (← c.weights-listed.ensures.value) at c.weights-listed.ensures.fits in
-    let few = weights-few c.args.weights.now.case listed c.case-case.ensures.kept fits in
+    let few = rw (← c.weights-listed.ensures.value) at (weights-few _ _ c.case-case.ensures.kept c.case-case.ensures.fits) in
     omega (arith, few, c.len-scenarios.ensures, c.len-limits.ensures, c.len-pools.ensures)
 
 pub check_each-requires-clause-room : goal.check_each-requires-clause-room
 check_each-requires-clause-room c =
-    let listed = c.weights-listed.result.now in
-    let fits = rw (← c.weights-listed.ensures.value) at c.weights-listed.ensures.fits in
-    let few = weights-few c.args.weights.now.case listed c.case-case.ensures.kept fits in
+    let few = rw (← c.weights-listed.ensures.value) at (weights-few _ _ c.case-case.ensures.kept c.case-case.ensures.fits) in
     omega (arith, few, c.len-scenarios.ensures, c.len-limits.ensures, c.len-pools.ensures, (rw c.case-case.ensures.value at c.lines.ensures))
 
 pub returns-in_err-check_not_negative : goal.returns-in_err-check_not_negative
