@@ -1,9 +1,8 @@
 // The conditions of a certificate, one after the other.
 ghost use Rattle.std.specs.Prelude.{◌≡◌, ◌++◌, ◌∷◌, []};
-ghost use Rattle.core_book.specs.Kept.{IsCase};
-ghost use Rattle.core_model.specs.Layout.{plan_of};
+ghost use Rattle.core_model.specs.OfCase.{planned};
 ghost use Rattle.core_model.specs.Check.{by_closing, calendar_places, charge_test, places, places_of, sum_test, weight_tests};
-ghost use Rattle.core_model.specs.Fits.{CalendarFits, Fits, IsKept, WeightsFit};
+ghost use Rattle.core_model.specs.Fits.{Fits, IsKept};
 ghost use Rattle.core_model.specs.declared.cert.Cert.TheVariants.{Cannot, Closes};
 ghost use Rattle.core_model.specs.declared.condition.Condition.TheVariants.{Charges, WeightSigns, WeightSum};
 ghost use Rattle.core_check.specs.Answers.{answer};
@@ -15,113 +14,99 @@ use crate::closings::{check_allowed, check_caps, check_full, check_limits, check
 use crate::fault::CheckFault;
 use crate::places::judge_place;
 use crate::weights::{check_weight_signs, have_sum};
-use core_book::Case;
+use crate::with_flows::{CalendarAndFlows, WeightsAndFlows};
 use core_flows::Flows;
-use core_model::{Calendar, Cert, Condition, Weights};
+use core_model::{Cert, Condition};
 
 /// The conditions on a calendar and its loss, 2 to 8.
-fn check_calendar(
-    case: &Case,
-    flows: &Flows,
-    calendar: &Calendar,
-    loss: i128,
-) -> Result<(), CheckFault>
-    requires kept { IsCase case.now }
-    requires flows { flows.now ≡ case.now }
-    requires fits { CalendarFits case.now calendar.now }
+fn check_calendar(calendar: &CalendarAndFlows, loss: i128) -> Result<(), CheckFault>
     requires loss { IsKept loss }
     ensures { result ≡ answer (calendar_places
-        case.now (plan_of case.now calendar.now) loss) }
+        calendar.now.of_case.case (planned calendar.now.of_case) loss) }
 {
-    check_signs(case, calendar)?;
-    check_allowed(case, calendar)?;
-    check_full(case, calendar)?;
-    check_limits(case, calendar)?;
-    check_caps(case, calendar)?;
-    check_loss(case, flows, calendar, loss)
+    check_signs(&calendar.of_case)?;
+    check_allowed(&calendar.of_case)?;
+    check_full(&calendar.of_case)?;
+    check_limits(&calendar.of_case)?;
+    check_caps(&calendar.of_case)?;
+    check_loss(calendar, loss)
 }
 
 /// The conditions on weights but for their bound, 9 to 11, where the scenario weights are to have a sum.
-fn check_weights(case: &Case, flows: &Flows, weights: &Weights, sum: i128) -> Result<(), CheckFault>
-    requires kept { IsCase case.now }
-    requires flows { flows.now ≡ case.now }
-    requires fits { WeightsFit case.now weights.now }
+fn check_weights(weights: &WeightsAndFlows, sum: i128) -> Result<(), CheckFault>
     ensures { result ≡ answer
-        (places_of WeightSigns 1 (weight_tests case.now weights.now)
-        ++ places_of WeightSum 1 (sum_test case.now weights.now sum ∷ [])
-        ++ places_of Charges 1 (by_closing case.now (charge_test case.now weights.now))) }
+        (places_of WeightSigns 1
+        (weight_tests weights.now.of_case.case weights.now.of_case.weights)
+        ++ places_of WeightSum 1
+        (sum_test weights.now.of_case.case weights.now.of_case.weights sum ∷ [])
+        ++ places_of Charges 1 (by_closing weights.now.of_case.case
+        (charge_test weights.now.of_case.case weights.now.of_case.weights))) }
 {
-    check_weight_signs(case, weights)?;
-    judge_place(Condition::WeightSum, 1, have_sum(case, weights, sum))?;
-    check_charges(case, flows, weights)
+    check_weight_signs(&weights.of_case)?;
+    judge_place(Condition::WeightSum, 1, have_sum(&weights.of_case, sum))?;
+    check_charges(weights)
 }
 
 /// The conditions of a calendar, its loss and its weights.
 fn check_closes(
-    case: &Case,
-    flows: &Flows,
-    calendar: &Calendar,
+    calendar: &CalendarAndFlows,
     loss: i128,
-    weights: &Weights,
+    weights: &WeightsAndFlows,
 ) -> Result<(), CheckFault>
-    requires kept { IsCase case.now }
-    requires flows { flows.now ≡ case.now }
-    requires fits { CalendarFits case.now calendar.now }
     requires loss { IsKept loss }
-    requires weights_fit { WeightsFit case.now weights.now }
-    ensures { result ≡ answer (places case.now (Closes calendar.now loss weights.now)) }
+    requires same_case { weights.now.of_case.case ≡ calendar.now.of_case.case }
+    ensures { result ≡ answer (places calendar.now.of_case.case
+        (Closes calendar.now.of_case.calendar loss weights.now.of_case.weights)) }
 {
-    if calendar.den < 1 {
+    let den = calendar.of_case.calendar().den;
+    let weights_den = weights.of_case.weights().den;
+    if den < 1 {
         return Err(CheckFault::No {
             condition: Condition::Denominators.number(),
             place: 1,
         });
     }
-    if weights.den < 1 {
+    if weights_den < 1 {
         return Err(CheckFault::No {
             condition: Condition::Denominators.number(),
             place: 2,
         });
     }
-    check_calendar(case, flows, calendar, loss)?;
-    check_weights(case, flows, weights, weights.den)?;
-    judge_place(
-        Condition::Bound,
-        1,
-        meets(case, flows, weights, calendar.den, loss),
-    )
+    check_calendar(calendar, loss)?;
+    check_weights(weights, weights_den)?;
+    judge_place(Condition::Bound, 1, meets(weights, den, loss))
 }
 
 /// The conditions of weights that refuse every calendar.
-fn check_cannot(case: &Case, flows: &Flows, weights: &Weights) -> Result<(), CheckFault>
-    requires kept { IsCase case.now }
-    requires flows { flows.now ≡ case.now }
-    requires fits { WeightsFit case.now weights.now }
-    ensures { result ≡ answer (places case.now (Cannot weights.now)) }
+fn check_cannot(weights: &WeightsAndFlows) -> Result<(), CheckFault>
+    ensures { result ≡ answer (places weights.now.of_case.case
+        (Cannot weights.now.of_case.weights)) }
 {
-    if weights.den < 1 {
+    let den = weights.of_case.weights().den;
+    if den < 1 {
         return Err(CheckFault::No {
             condition: Condition::Denominators.number(),
             place: 2,
         });
     }
-    check_weights(case, flows, weights, 0)?;
-    judge_place(Condition::Bound, 1, refuses(case, flows, weights))
+    check_weights(weights, 0)?;
+    judge_place(Condition::Bound, 1, refuses(weights))
 }
 
-/// The conditions of a certificate.
-pub(crate) fn check_cert(case: &Case, flows: &Flows, cert: &Cert) -> Result<(), CheckFault>
-    requires kept { IsCase case.now }
-    requires flows { flows.now ≡ case.now }
-    requires fits { Fits case.now cert.now }
-    ensures { result ≡ answer (places case.now cert.now) }
+/// The conditions of a certificate of the case of the flows.
+pub(crate) fn check_cert(flows: &Flows, cert: &Cert) -> Result<(), CheckFault>
+    requires fits { Fits flows.now cert.now }
+    ensures { result ≡ answer (places flows.now cert.now) }
 {
     match cert {
         Cert::Closes {
             calendar,
             loss,
             weights,
-        } => check_closes(case, flows, calendar, *loss, weights),
-        Cert::Cannot { weights } => check_cannot(case, flows, weights),
+        } => {
+            let calendar = CalendarAndFlows::of(flows, calendar);
+            check_closes(&calendar, *loss, &WeightsAndFlows::of(flows, weights))
+        }
+        Cert::Cannot { weights } => check_cannot(&WeightsAndFlows::of(flows, weights)),
     }
 }

@@ -15,6 +15,7 @@ mod numbers;
 mod places;
 mod ratios;
 mod weights;
+mod with_flows;
 
 ghost use Rattle.std.specs.Prelude.{◌≡◌, OnOk, IfErr};
 ghost use Rattle.core_model.specs.Fits.{Fits};
@@ -55,7 +56,7 @@ pub fn check(alloc: Global, case: &Case, cert: &Cert) -> Result<(), CheckFault>
     // What every case keeps, its conditions stand on.
     let _kept = case.horizon();
     let flows = Flows::make(alloc, case)?;
-    check_cert(case, &flows, cert)
+    check_cert(&flows, cert)
 }
 
 /// The law of bounding weights: an admissible calendar whose worst loss meets their bound is least.

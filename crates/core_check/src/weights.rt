@@ -1,9 +1,7 @@
 // The conditions on the signs of the weights and on the sum of the scenario weights.
 ghost use Rattle.std.specs.Prelude.{◌≡◌, ◌+◌, ◌^◌, ◌<◌, pos, int_le, map, length};
 ghost use Rattle.core_sums.specs.Places.{at, below};
-ghost use Rattle.core_book.specs.Kept.{IsCase};
 ghost use Rattle.core_model.specs.Closing.{line_count};
-ghost use Rattle.core_model.specs.Fits.{WeightsFit};
 ghost use Rattle.core_model.specs.Check.{full_sign, places_of, plain, sum_test, weight_tests};
 ghost use Rattle.core_model.specs.declared.condition.Condition.TheVariants.{WeightSigns};
 ghost use Rattle.core_check.specs.Answers.{answer};
@@ -12,8 +10,8 @@ ghost use Rattle.core_check.specs.Steps.{judged};
 use crate::fault::CheckFault;
 use crate::numbers::number;
 use crate::places::check_each;
-use core_book::{Case, Side};
-use core_model::{Condition, Numbers, Weights};
+use core_book::Side;
+use core_model::{CaseWeights, Condition, Numbers};
 use core_wide::{add_each, plus};
 
 /// Whether each of some weights is at least 0, where the signs before are `before` in number.
@@ -29,43 +27,43 @@ fn check_not_negative(before: u32, weights: &Numbers) -> Result<(), CheckFault>
 }
 
 /// Whether the full weight of a line is at most 0, where the line is collateral.
-fn has_full_sign(case: &Case, weights: &Weights, l: usize) -> bool
-    requires fits { WeightsFit case.now weights.now }
-    requires line { l < line_count case.now }
-    ensures { result ≡ (full_sign case.now weights.now l).holds }
+fn has_full_sign(weights: &CaseWeights, l: usize) -> bool
+    requires line { l < line_count weights.now.case }
+    ensures { result ≡ (full_sign weights.now.case weights.now.weights l).holds }
 {
+    let case = weights.case();
     match case.line(l).side {
         Side::Position => true,
-        Side::Collateral => weights.full_of(case, l) <= 0,
+        Side::Collateral => weights.full_of(l) <= 0,
     }
 }
 
 /// Whether each weight has its sign.
-pub(crate) fn check_weight_signs(case: &Case, weights: &Weights) -> Result<(), CheckFault>
-    requires kept { IsCase case.now }
-    requires fits { WeightsFit case.now weights.now }
-    ensures { result ≡ answer (places_of WeightSigns 1 (weight_tests case.now weights.now)) }
+pub(crate) fn check_weight_signs(weights: &CaseWeights) -> Result<(), CheckFault>
+    ensures { result ≡ answer
+        (places_of WeightSigns 1 (weight_tests weights.now.case weights.now.weights)) }
 {
-    let scenarios = weights.scenario.len() as u32;
-    let limits = weights.limit.len() as u32;
-    let pools = weights.pool.len() as u32;
-    check_not_negative(0, &weights.scenario)?;
-    check_not_negative(scenarios, &weights.limit)?;
-    check_not_negative(scenarios + limits, &weights.pool)?;
+    let case = weights.case();
+    let listed = weights.weights();
+    let scenarios = listed.scenario.len() as u32;
+    let limits = listed.limit.len() as u32;
+    let pools = listed.pool.len() as u32;
+    check_not_negative(0, &listed.scenario)?;
+    check_not_negative(scenarios, &listed.limit)?;
+    check_not_negative(scenarios + limits, &listed.pool)?;
     check_each(
         Condition::WeightSigns,
         1 + scenarios + limits + pools,
         case.lines(),
-        |l| { Some(has_full_sign(case, weights, l)) },
+        |l| { Some(has_full_sign(weights, l)) },
     )
 }
 
 /// Whether the scenario weights have a sum, or None where a sum leaves.
-pub(crate) fn have_sum(case: &Case, weights: &Weights, sum: i128) -> Option<bool>
-    requires fits { WeightsFit case.now weights.now }
-    ensures { result ≡ judged (sum_test case.now weights.now sum) }
+pub(crate) fn have_sum(weights: &CaseWeights, sum: i128) -> Option<bool>
+    ensures { result ≡ judged (sum_test weights.now.case weights.now.weights sum) }
 {
-    let scenario = &weights.scenario;
+    let scenario = &weights.weights().scenario;
     let total = add_each(0, scenario.len(), |total, place| {
         plus(total, number(scenario, place))
     })?;

@@ -16,5 +16,6 @@ pub returns-clause-shows : goal.returns-clause-shows
 returns-clause-shows c =
     let case = c.args.case.now in
     let cert = c.args.cert.now in
+    let answers = rw c.in_ok-flows.ensures at c.check_cert.ensures in
     on_ok {P = Shows case cert} c.check_cert.result
-    (λ ok. valid_shows case cert c.horizon-kept.ensures.kept (passed-is-valid case cert (passed-of (verdict case cert) (sym c.check_cert.ensures ∙ ok))))
+    (λ ok. valid_shows case cert c.horizon-kept.ensures.kept (passed-is-valid case cert (passed-of (verdict case cert) (sym answers ∙ ok))))

@@ -8,11 +8,11 @@ use Rattle.core_check.proofs.BoundTerms.{meets-leaves, meets-stays}
 use Rattle.core_check.proofs.bounds.meets.Goals as goal
 
 pub returns-in_err-bound : goal.returns-in_err-bound
-returns-in_err-bound c = c.from_residual.ensures ∙ meets-leaves c.args.case.now c.args.weights.now c.args.den c.args.loss c.in_err-bound.ensures
+returns-in_err-bound c = c.from_residual.ensures ∙ meets-leaves c.args.weights.now.of_case.case c.args.weights.now.of_case.weights c.args.den c.args.loss c.in_err-bound.ensures
 
 pub is_same_ratio-requires-clause-first : goal.is_same_ratio-requires-clause-first
 is_same_ratio-requires-clause-first c =
-    let terms = bound_terms c.args.case.now c.args.weights.now in
+    let terms = bound_terms c.args.weights.now.of_case.case c.args.weights.now.of_case.weights in
     let fits : FitsSigned w128 c.in_ok-bound.bound = search rules in
     simp to_z-of_z (sum-kept c.in_ok-bound.bound terms terms (sym c.in_ok-bound.ensures))
 
@@ -21,6 +21,6 @@ returns c =
     let bound_fits : FitsSigned w128 c.in_ok-bound.bound = search rules in
     let den_fits : FitsSigned w128 c.args.den = c.ranges.den in
     let loss_fits : FitsSigned w128 c.args.loss = c.ranges.loss in
-    let weights_fit : FitsSigned w128 c.args.weights.now.den = search rules in
-    let same : c.is_same_ratio.result ≡ int_eq (c.in_ok-bound.bound *ℤ c.args.den) (c.args.loss *ℤ c.args.weights.now.den) = simp to_z-of_z at c.is_same_ratio.ensures in
-    meets-stays c.args.case.now c.args.weights.now c.args.den c.args.loss c.in_ok-bound.bound c.is_same_ratio.result c.in_ok-bound.ensures same
+    let weights_fit : FitsSigned w128 c.weights.result.now.den = search rules in
+    let same : c.is_same_ratio.result ≡ int_eq (c.in_ok-bound.bound *ℤ c.args.den) (c.args.loss *ℤ c.args.weights.now.of_case.weights.den) = rw c.weights.ensures.value at (simp to_z-of_z at c.is_same_ratio.ensures) in
+    meets-stays c.args.weights.now.of_case.case c.args.weights.now.of_case.weights c.args.den c.args.loss c.in_ok-bound.bound c.is_same_ratio.result c.in_ok-bound.ensures same

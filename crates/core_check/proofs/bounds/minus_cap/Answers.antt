@@ -13,6 +13,6 @@ returns-then-weight-eq0 c =
     let sum_fits : FitsSigned w128 c.args.sum = c.ranges.sum in
     let weight_fits : FitsSigned w128 c.number-weight.result = search rules in
     let none : c.number-weight.result ≡ pos 0 = search (rules, c.if-weight-eq0.true) in
-    let most = (pool c.args.case.now (pool_at_place c.args.case.now c.args.place)).cap in
-    let nothing : neg_ℤ (most *ℤ at c.args.weights.now.pool c.args.place) ≡ pos 0 = ap (λ z. neg_ℤ (most *ℤ z)) (sym c.number-weight.ensures ∙ none) ∙ ap neg_ℤ (*ℤ-zero most) in
+    let most = (pool c.args.weights.now.case (pool_at_place c.args.weights.now.case c.args.place)).cap in
+    let nothing : neg_ℤ (most *ℤ at c.args.weights.now.weights.pool c.args.place) ≡ pos 0 = ap (λ z. neg_ℤ (most *ℤ z)) (sym (rw c.weights.ensures.value at c.number-weight.ensures) ∙ none) ∙ ap neg_ℤ (*ℤ-zero most) in
     simp to_z-of_z at (c.plus.ensures.kept (lit≤ tt)) ∙ ap (with_product c.args.sum) (sym nothing)

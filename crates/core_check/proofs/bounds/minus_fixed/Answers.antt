@@ -13,6 +13,6 @@ returns-then-weight-eq0 c =
     let sum_fits : FitsSigned w128 c.args.sum = c.ranges.sum in
     let weight_fits : FitsSigned w128 c.number-weight.result = search rules in
     let none : c.number-weight.result ≡ pos 0 = search (rules, c.if-weight-eq0.true) in
-    let cash = fixed c.args.case.now (house_day_at_place c.args.case.now c.args.place) in
-    let nothing : neg_ℤ (at c.args.weights.now.scenario c.args.place *ℤ cash) ≡ pos 0 = ap (λ z. neg_ℤ (z *ℤ cash)) (sym c.number-weight.ensures ∙ none) ∙ ap neg_ℤ (zero-*ℤ cash) in
+    let cash = fixed c.args.weights.now.of_case.case (house_day_at_place c.args.weights.now.of_case.case c.args.place) in
+    let nothing : neg_ℤ (at c.args.weights.now.of_case.weights.scenario c.args.place *ℤ cash) ≡ pos 0 = ap (λ z. neg_ℤ (z *ℤ cash)) (sym (rw c.weights.ensures.value at c.number-weight.ensures) ∙ none) ∙ ap neg_ℤ (zero-*ℤ cash) in
     simp to_z-of_z at (c.plus.ensures.kept (lit≤ tt)) ∙ ap (with_product c.args.sum) (sym nothing)

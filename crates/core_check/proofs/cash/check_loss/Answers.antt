@@ -13,16 +13,16 @@ use Rattle.core_model.specs.declared.condition.Condition.TheVariants.{Losses, Wo
 pub is_reached-reached-requires-clause-stays : goal.is_reached-reached-requires-clause-stays
 is_reached-reached-requires-clause-stays c =
     let loss : FitsSigned w128 c.args.loss = c.ranges.loss in
-    let case = c.args.case.now in
-    let a = plan_of case c.args.calendar.now in
+    let case = c.args.calendar.now.of_case.case in
+    let a = plan_of case c.args.calendar.now.of_case.calendar in
     let covered : List Place = places_of Losses 1 (by_scenario_and_day case (loss_test case a c.args.loss)) in
     covered-stay case a c.args.loss (passed-of (verdict_of covered) (sym (simp to_z-of_z at c.in_ok-check_covered.ensures)))
 
 pub returns-in_err-check_covered : goal.returns-in_err-check_covered
 returns-in_err-check_covered c =
     let loss : FitsSigned w128 c.args.loss = c.ranges.loss in
-    let case = c.args.case.now in
-    let a = plan_of case c.args.calendar.now in
+    let case = c.args.calendar.now.of_case.case in
+    let a = plan_of case c.args.calendar.now.of_case.calendar in
     let covered : List Place = places_of Losses 1 (by_scenario_and_day case (loss_test case a c.args.loss)) in
     let reached : List Place = places_of WorstLoss 1 (reached_test case a c.args.loss ∷ []) in
     let passed_on = err_from_is_err_and c.from_residual.result c.from_residual.ensures.1 in
@@ -33,8 +33,8 @@ returns-in_err-check_covered c =
 pub returns : goal.returns
 returns c =
     let loss : FitsSigned w128 c.args.loss = c.ranges.loss in
-    let case = c.args.case.now in
-    let a = plan_of case c.args.calendar.now in
+    let case = c.args.calendar.now.of_case.case in
+    let a = plan_of case c.args.calendar.now.of_case.calendar in
     let covered : List Place = places_of Losses 1 (by_scenario_and_day case (loss_test case a c.args.loss)) in
     let reached : List Place = places_of WorstLoss 1 (reached_test case a c.args.loss ∷ []) in
     let test = reached_test case a c.args.loss in

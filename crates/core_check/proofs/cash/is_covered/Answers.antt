@@ -15,11 +15,12 @@ returns c =
     let loss : FitsSigned w128 c.args.loss = c.ranges.loss in
     let opposite : FitsSigned w128 (pos 0 -ℤ c.args.loss) = opposite-fits c.args.loss c.requires.loss in
     let cash : FitsSigned w128 c.in_ok-cash.cash = search rules in
-    let case = c.args.case.now in
-    let a = plan_of case c.args.calendar.now in
+    let case = c.args.calendar.now.of_case.case in
+    let same = c.case-case.ensures.value in
+    let a = plan_of case c.args.calendar.now.of_case.calendar in
     let terms = cash_terms case a (scenario_at_place case c.args.place) (house_day_at_place case c.args.place) in
     let sum = cash-at case a c.scenarios.result c.args.place c.scenario_cell-on.result (Some c.in_ok-cash.cash)
-    c.scenario_cell-on.ensures c.in_ok-cash.ensures in
+    (rw same at c.scenario_cell-on.ensures) c.in_ok-cash.ensures in
     simp to_z-of_z
     (ap (λ b. Some b) (loss-most c.in_ok-cash.cash c.args.loss)
     ∙ ap (λ z. Some (int_le (neg_ℤ z) c.args.loss)) (sym (sum-total c.in_ok-cash.cash terms terms sum))
@@ -27,9 +28,10 @@ returns c =
 
 pub returns-in_err-cash : goal.returns-in_err-cash
 returns-in_err-cash c =
-    let case = c.args.case.now in
-    let a = plan_of case c.args.calendar.now in
+    let case = c.args.calendar.now.of_case.case in
+    let same = c.case-case.ensures.value in
+    let a = plan_of case c.args.calendar.now.of_case.calendar in
     let terms = cash_terms case a (scenario_at_place case c.args.place) (house_day_at_place case c.args.place) in
     let none = cash-at case a c.scenarios.result c.args.place c.scenario_cell-on.result None
-    c.scenario_cell-on.ensures c.in_err-cash.ensures in
+    (rw same at c.scenario_cell-on.ensures) c.in_err-cash.ensures in
     c.from_residual.ensures ∙ sum-leaves terms (int_le (neg_ℤ (total terms)) c.args.loss) none

@@ -6,12 +6,12 @@ use Rattle.core_check.proofs.charges.is_charged.Goals as goal
 
 pub returns-then-not-allowed : goal.returns-then-not-allowed
 returns-then-not-allowed c =
-    not-charged c.args.case.now c.args.weights.now c.args.cell.row c.args.cell.day c.args.cell.tier (sym c.if-not-allowed.ensures)
+    not-charged c.args.weights.now.of_case.case c.args.weights.now.of_case.weights c.args.cell.row c.args.cell.day c.args.cell.tier (sym (rw c.case-case.ensures.value at c.if-not-allowed.ensures))
 
 pub returns-in_err-charge : goal.returns-in_err-charge
 returns-in_err-charge c =
     c.from_residual.ensures
-    ∙ charge-leaves c.args.case.now c.args.weights.now c.args.cell.row c.args.cell.day c.args.cell.tier (sym c.if-not-allowed.ensures) c.in_err-charge.ensures
+    ∙ charge-leaves c.args.weights.now.of_case.case c.args.weights.now.of_case.weights c.args.cell.row c.args.cell.day c.args.cell.tier (sym (rw c.case-case.ensures.value at c.if-not-allowed.ensures)) c.in_err-charge.ensures
 
 pub returns : goal.returns
 returns c =
@@ -19,5 +19,5 @@ returns c =
     let full_fits : FitsSigned w128 c.full_of.result = search rules in
     let charge_fits : FitsSigned w128 c.in_ok-charge.charge = search rules in
     simp to_z-of_z
-    (charge-stays c.args.case.now c.args.weights.now cell.row cell.day cell.tier c.full_of.result c.in_ok-charge.charge (sym c.if-not-allowed.ensures)
+    (charge-stays c.args.weights.now.of_case.case c.args.weights.now.of_case.weights cell.row cell.day cell.tier c.full_of.result c.in_ok-charge.charge (sym (rw c.case-case.ensures.value at c.if-not-allowed.ensures))
     c.full_of.ensures c.in_ok-charge.ensures)

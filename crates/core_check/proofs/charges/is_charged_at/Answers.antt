@@ -6,7 +6,7 @@ use Rattle.core_check.proofs.charges.is_charged_at.Goals as goal
 
 pub returns : goal.returns
 returns c =
-    let case = c.args.case.now in
-    let w = c.args.weights.now in
+    let case = c.args.weights.now.of_case.case in
+    let w = c.args.weights.now.of_case.weights in
     c.is_charged.ensures
-    ∙ closing-at case c.lines.result c.args.place c.closing_cell.result (λ l u j. judged (charge_test case w l u j)) c.closing_cell.ensures
+    ∙ closing-at case c.lines.result c.args.place c.closing_cell.result (λ l u j. judged (charge_test case w l u j)) (rw c.case-case.ensures.value at c.closing_cell.ensures)

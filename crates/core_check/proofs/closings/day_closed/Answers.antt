@@ -9,11 +9,11 @@ use Rattle.core_check.proofs.closings.day_closed.Goals as goal
 
 pub returns : goal.returns
 returns c =
-    let case = c.args.case.now in
+    let case = c.args.calendar.now.case in
     let i = c.args.i in
-    let amounts : ℕ → List ℤ = λ l. map ((plan_of case c.args.calendar.now).amount l c.args.u) (days_to (tiers case)) in
+    let amounts : ℕ → List ℤ = λ l. map ((plan_of case c.args.calendar.now.calendar).amount l c.args.u) (days_to (tiers case)) in
     let added = c.add_each.ensures (λ l. []) (λ l. if instrument_of case l == i then amounts l else []) (λ s l r fits under step. search rules) in
     added
-    ∙ ap (λ (n : ℕ). summed (pos 0) (each (below n) (λ l. [])) (each (below n) (λ l. if instrument_of case l == i then amounts l else []))) c.lines.ensures
+    ∙ ap (λ (n : ℕ). summed (pos 0) (each (below n) (λ l. [])) (each (below n) (λ l. if instrument_of case l == i then amounts l else []))) (rw c.case-case.ensures.value at c.lines.ensures)
     ∙ ap (λ zs. summed (pos 0) zs (each (below (line_count case)) (λ l. if instrument_of case l == i then amounts l else []))) (each-empty (line_count case))
     ∙ ap (summed (pos 0) []) (sym (each-filter (λ l. instrument_of case l == i) amounts (below (line_count case))))

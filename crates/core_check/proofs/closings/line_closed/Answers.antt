@@ -9,11 +9,12 @@ use Rattle.core_check.proofs.closings.line_closed.Goals as goal
 
 pub returns : goal.returns
 returns c =
-    let case = c.args.case.now in
-    let a = plan_of case c.args.calendar.now in
+    let case = c.args.calendar.now.case in
+    let same = c.case-case.ensures.value in
+    let a = plan_of case c.args.calendar.now.calendar in
     let amount = λ (n : ℕ). a.amount c.args.l (day_at_place case n) (tier_at_place case n) in
     let added = c.add_each.ensures (λ n. []) (λ n. amount n ∷ []) (λ s n r fits under step. search rules) in
-    let count = places-counted c.from.result c.from-2.result case.horizon (tiers case) (c.from.ensures ∙ c.horizon.ensures.value) (c.from-2.ensures ∙ c.tiers.ensures) in
+    let count = places-counted c.from.result c.from-2.result case.horizon (tiers case) (c.from.ensures ∙ (rw same at c.horizon.ensures.value)) (c.from-2.ensures ∙ (rw same at c.tiers.ensures)) in
     added
     ∙ ap (λ (n : ℕ). summed (pos 0) (each (below n) (λ j. [])) (each (below n) (λ j. amount j ∷ []))) count
     ∙ ap (λ zs. summed (pos 0) zs (each (below (case.horizon * tiers case)) (λ j. amount j ∷ []))) (each-empty (case.horizon * tiers case))

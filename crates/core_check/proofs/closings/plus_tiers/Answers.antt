@@ -11,22 +11,22 @@ use Rattle.core_check.proofs.closings.plus_tiers.Goals as goal
 
 pub returns-then-line-i : goal.returns-then-line-i
 returns-then-line-i c =
-    let case = c.args.case.now in
+    let case = c.args.calendar.now.case in
     let fits : FitsSigned w128 c.args.sum = c.ranges.sum in
-    let amounts : List ℤ = map ((plan_of case c.args.calendar.now).amount c.args.l c.args.u) (days_to (tiers case)) in
+    let amounts : List ℤ = map ((plan_of case c.args.calendar.now.calendar).amount c.args.l c.args.u) (days_to (tiers case)) in
     let other : (instrument_of case c.args.l == c.args.i) ≡ false = search rules in
     simp to_z-of_z (sym (ap (λ b. summed c.args.sum [] (if b then amounts else [])) other ∙ summed-none c.args.sum))
 
 pub returns : goal.returns
 returns c =
-    let case = c.args.case.now in
+    let case = c.args.calendar.now.case in
     let fits : FitsSigned w128 c.args.sum = c.ranges.sum in
     let s = c.args.sum in
-    let amount = (plan_of case c.args.calendar.now).amount c.args.l c.args.u in
+    let amount = (plan_of case c.args.calendar.now.calendar).amount c.args.l c.args.u in
     let same : (instrument_of case c.args.l == c.args.i) ≡ true = search rules in
     let added = simp to_z-of_z at (c.add_each.ensures (λ j. []) (λ j. amount (j + 1) ∷ []) (λ s j r fits under step. search rules)) in
     added
-    ∙ ap (λ (n : ℕ). summed s (each (below n) (λ j. [])) (each (below n) (λ j. amount (j + 1) ∷ []))) (c.from.ensures ∙ c.tiers.ensures)
+    ∙ ap (λ (n : ℕ). summed s (each (below n) (λ j. [])) (each (below n) (λ j. amount (j + 1) ∷ []))) (c.from.ensures ∙ (rw c.case-case.ensures.value at c.tiers.ensures))
     ∙ ap (λ zs. summed s zs (each (below (tiers case)) (λ j. amount (j + 1) ∷ []))) (each-empty (tiers case))
     ∙ ap (summed s []) (days-each (tiers case) amount)
     ∙ sym (ap (λ b. summed s [] (if b then map amount (days_to (tiers case)) else [])) same)

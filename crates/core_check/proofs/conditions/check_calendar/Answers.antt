@@ -9,8 +9,8 @@ use Rattle.core_check.proofs.conditions.check_calendar.Goals as goal
 
 pub returns-in_err-check_signs : goal.returns-in_err-check_signs
 returns-in_err-check_signs c =
-    let case = c.args.case.now in
-    let x = c.args.calendar.now in
+    let case = c.args.calendar.now.of_case.case in
+    let x = c.args.calendar.now.of_case.calendar in
     let loss = c.args.loss in
     let passed_on = err_from_is_err_and c.from_residual.result c.from_residual.ensures.1 in
     let fault = c.in_err-check_signs.field-0.0 in
@@ -22,8 +22,8 @@ returns-in_err-check_signs c =
 
 pub returns-in_err-check_allowed : goal.returns-in_err-check_allowed
 returns-in_err-check_allowed c =
-    let case = c.args.case.now in
-    let x = c.args.calendar.now in
+    let case = c.args.calendar.now.of_case.case in
+    let x = c.args.calendar.now.of_case.calendar in
     let loss = c.args.loss in
     let passed_on = err_from_is_err_and c.from_residual-in_err-check_allowed.result c.from_residual-in_err-check_allowed.ensures.1 in
     let fault = c.in_err-check_allowed.field-0.0 in
@@ -36,8 +36,8 @@ returns-in_err-check_allowed c =
 
 pub returns-in_err-check_full : goal.returns-in_err-check_full
 returns-in_err-check_full c =
-    let case = c.args.case.now in
-    let x = c.args.calendar.now in
+    let case = c.args.calendar.now.of_case.case in
+    let x = c.args.calendar.now.of_case.calendar in
     let loss = c.args.loss in
     let passed_on = err_from_is_err_and c.from_residual-in_err-check_full.result c.from_residual-in_err-check_full.ensures.1 in
     let fault = c.in_err-check_full.field-0.0 in
@@ -51,8 +51,8 @@ returns-in_err-check_full c =
 
 pub returns-in_err-check_limits : goal.returns-in_err-check_limits
 returns-in_err-check_limits c =
-    let case = c.args.case.now in
-    let x = c.args.calendar.now in
+    let case = c.args.calendar.now.of_case.case in
+    let x = c.args.calendar.now.of_case.calendar in
     let loss = c.args.loss in
     let passed_on = err_from_is_err_and c.from_residual-in_err-check_limits.result c.from_residual-in_err-check_limits.ensures.1 in
     let fault = c.in_err-check_limits.field-0.0 in
@@ -67,8 +67,8 @@ returns-in_err-check_limits c =
 
 pub returns-in_err-check_caps : goal.returns-in_err-check_caps
 returns-in_err-check_caps c =
-    let case = c.args.case.now in
-    let x = c.args.calendar.now in
+    let case = c.args.calendar.now.of_case.case in
+    let x = c.args.calendar.now.of_case.calendar in
     let loss = c.args.loss in
     let passed_on = err_from_is_err_and c.from_residual-in_err-check_caps.result c.from_residual-in_err-check_caps.ensures.1 in
     let fault = c.in_err-check_caps.field-0.0 in
@@ -84,8 +84,8 @@ returns-in_err-check_caps c =
 
 pub returns : goal.returns
 returns c =
-    let case = c.args.case.now in
-    let x = c.args.calendar.now in
+    let case = c.args.calendar.now.of_case.case in
+    let x = c.args.calendar.now.of_case.calendar in
     let loss = c.args.loss in
     let fits : FitsSigned w128 loss = c.ranges.loss in
     let last : c.check_loss.result ≡ answer (losses case x loss) = simp to_z-of_z at c.check_loss.ensures in

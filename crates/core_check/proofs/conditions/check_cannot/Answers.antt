@@ -7,18 +7,18 @@ use Rattle.core_check.proofs.Joining.{den, den-low, den-pass, weighed}
 use Rattle.core_check.proofs.conditions.check_cannot.Goals as goal
 use Rattle.core_model.specs.declared.condition.Condition.TheVariants.{Bound}
 
-pub returns-then-weights-lt1 : goal.returns-then-weights-lt1
-returns-then-weights-lt1 c =
-    let case = c.args.case.now in
-    let w = c.args.weights.now in
+pub returns-then-den-lt1 : goal.returns-then-den-lt1
+returns-then-den-lt1 c =
+    let case = c.args.weights.now.of_case.case in
+    let w = c.args.weights.now.of_case.weights in
     let low : w.den <ℤ pos 1 = search rules in
     ap (λ (n : ℕ). Err (No n 2)) c.number.ensures
     ∙ sym (answer-ends (den w.den) (weight_places case w (pos 0) (refuses_test case w)) (No 1 2) (den-low w.den low))
 
 pub returns-in_err-check_weights : goal.returns-in_err-check_weights
 returns-in_err-check_weights c =
-    let case = c.args.case.now in
-    let w = c.args.weights.now in
+    let case = c.args.weights.now.of_case.case in
+    let w = c.args.weights.now.of_case.weights in
     let high : pos 1 ≤ℤ w.den = search rules in
     let fault = c.in_err-check_weights.field-0.0 in
     let passed_on = err_from_is_err_and c.from_residual.result c.from_residual.ensures.1 in
@@ -30,8 +30,8 @@ returns-in_err-check_weights c =
 
 pub returns : goal.returns
 returns c =
-    let case = c.args.case.now in
-    let w = c.args.weights.now in
+    let case = c.args.weights.now.of_case.case in
+    let w = c.args.weights.now.of_case.weights in
     let high : pos 1 ≤ℤ w.den = search rules in
     place-answers Bound 1 (refuses_test case w) c.refuses.result c.judge_place.result c.refuses.ensures c.judge_place.ensures
     ∙ sym

@@ -12,8 +12,8 @@ use Rattle.core_model.specs.declared.condition.Condition.TheVariants.{WeightSum}
 
 pub returns-in_err-check_weight_signs : goal.returns-in_err-check_weight_signs
 returns-in_err-check_weight_signs c =
-    let case = c.args.case.now in
-    let w = c.args.weights.now in
+    let case = c.args.weights.now.of_case.case in
+    let w = c.args.weights.now.of_case.weights in
     let passed_on = err_from_is_err_and c.from_residual.result c.from_residual.ensures.1 in
     passed_on.1
     ∙ ap Err passed_on.2
@@ -23,8 +23,8 @@ returns-in_err-check_weight_signs c =
 
 pub returns-in_err-judge_place : goal.returns-in_err-judge_place
 returns-in_err-judge_place c =
-    let case = c.args.case.now in
-    let w = c.args.weights.now in
+    let case = c.args.weights.now.of_case.case in
+    let w = c.args.weights.now.of_case.weights in
     let fits : FitsSigned w128 c.args.sum = c.ranges.sum in
     let sum : c.have_sum.result ≡ judged (sum_test case w c.args.sum) = simp to_z-of_z at c.have_sum.ensures in
     let fault = c.in_err-judge_place.field-0.0 in
@@ -39,8 +39,8 @@ returns-in_err-judge_place c =
 
 pub returns : goal.returns
 returns c =
-    let case = c.args.case.now in
-    let w = c.args.weights.now in
+    let case = c.args.weights.now.of_case.case in
+    let w = c.args.weights.now.of_case.weights in
     let fits : FitsSigned w128 c.args.sum = c.ranges.sum in
     let sum : c.have_sum.result ≡ judged (sum_test case w c.args.sum) = simp to_z-of_z at c.have_sum.ensures in
     let here : Ok tt ≡ answer (weight_sum case w c.args.sum) =

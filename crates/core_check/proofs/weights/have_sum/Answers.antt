@@ -13,22 +13,22 @@ use Rattle.core_check.proofs.weights.have_sum.Goals as goal
 
 pub returns : goal.returns
 returns c =
-    let case = c.args.case.now in
-    let w = c.args.weights.now in
+    let case = c.args.weights.now.case in
+    let w = c.args.weights.now.weights in
     let terms = scenario_terms case w in
     let z = c.in_ok-total.total in
     let added = c.add_each.ensures (scenario_term w) (scenario_term w) (λ s p r fits under step.
-    let kept : IsKept (at w.scenario p) = at-kept w.scenario p c.requires.fits.scenario.1 in search (rules, kept)) in
-    let sum = scenarios-summed case w c.len.result (Some z) c.requires.fits c.len.ensures (sym c.in_ok-total.was ∙ added) in
+    let kept : IsKept (at w.scenario p) = at-kept w.scenario p c.weights.ensures.fits.scenario.1 in search (rules, kept)) in
+    let sum = scenarios-summed case w c.len.result (Some z) c.weights.ensures.fits (rw c.weights.ensures.value at c.len.ensures) (sym c.in_ok-total.was ∙ added) in
     let same : nat_eq (of_z w128 z) (of_z w128 c.args.sum) ≡ int_eq z c.args.sum = search rules in
     ap Some (same ∙ ap (λ z. int_eq z c.args.sum) (sym (sum-total z terms terms sum))) ∙ sum-stays z terms (int_eq (total terms) c.args.sum) sum
 
 pub returns-in_err-total : goal.returns-in_err-total
 returns-in_err-total c =
-    let case = c.args.case.now in
-    let w = c.args.weights.now in
+    let case = c.args.weights.now.case in
+    let w = c.args.weights.now.weights in
     let terms = scenario_terms case w in
     let added = c.add_each.ensures (scenario_term w) (scenario_term w) (λ s p r fits under step.
-    let kept : IsKept (at w.scenario p) = at-kept w.scenario p c.requires.fits.scenario.1 in search (rules, kept)) in
-    let sum = scenarios-summed case w c.len.result None c.requires.fits c.len.ensures (sym c.in_err-total.was ∙ added) in
+    let kept : IsKept (at w.scenario p) = at-kept w.scenario p c.weights.ensures.fits.scenario.1 in search (rules, kept)) in
+    let sum = scenarios-summed case w c.len.result None c.weights.ensures.fits (rw c.weights.ensures.value at c.len.ensures) (sym c.in_err-total.was ∙ added) in
     c.from_residual.ensures ∙ sum-leaves terms (int_eq (total terms) c.args.sum) sum
