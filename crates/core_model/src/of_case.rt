@@ -10,6 +10,7 @@ use core_book::Case;
 use std::marker::Model;
 
 /// A calendar with the case that it is of: its list has the case's length. Contracts see both.
+#[derive(Drop)]
 pub struct CaseCalendar<'a> {
     case: &'a Case,
     calendar: &'a Calendar,
@@ -65,6 +66,7 @@ impl<'a> CaseCalendar<'a> {
 }
 
 /// Weights with the case that they are of: each of their lists has the case's length. Contracts see both.
+#[derive(Drop)]
 pub struct CaseWeights<'a> {
     case: &'a Case,
     weights: &'a Weights,
