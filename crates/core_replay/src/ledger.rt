@@ -2,9 +2,9 @@
 ghost use Rattle.std.specs.Prelude.{◌≡◌, ◌<◌, ◌≤◌, suc, pos, ◌≤ℤ◌, true, false, length, replicate, MatchOption, IfOk, IfErr};
 ghost use Rattle.core_sums.specs.Sums.{sum_below};
 ghost use Rattle.core_sums.specs.Widths.{any_leaves};
-ghost use Rattle.core_book.specs.Kept.{IsCase};
 ghost use Rattle.core_model.specs.Closing.{cash_of};
 ghost use Rattle.core_model.specs.Layout.{plan_of};
+ghost use Rattle.core_model.specs.OfCase.{planned};
 ghost use Rattle.core_model.specs.Fits.{CalendarFits};
 ghost use Rattle.core_replay.specs.Ledger.{opening_numbers, later_numbers, flows_until, paid_on};
 ghost use Rattle.core_replay.specs.Steps.{sum_numbers};
@@ -15,7 +15,7 @@ use crate::due::DueFlows;
 use crate::fault::ReplayFault;
 use crate::lines::{Standing, day_lines, open_lines};
 use core_book::Case;
-use core_model::{Calendar, Numbers};
+use core_model::{Calendar, CaseCalendar, Numbers};
 use core_wide::{plus, sum_from, times};
 use std::alloc::{AllocError, Global};
 
@@ -51,30 +51,28 @@ fn empty_ledger(alloc: Global, den: i128, days: usize) -> Result<Ledger, AllocEr
 
 /// What is paid on a day, and the total, or None where the fixed cash, a sum on the way or the total leaves.
 fn day_sums(
-    case: &Case,
-    calendar: &Calendar,
+    calendar: &CaseCalendar,
     scenario: usize,
     t: u8,
     due: &[i128],
     before: i128,
 ) -> Option<(i128, i128)>
-    requires kept { IsCase case.now }
-    requires fits { CalendarFits case.now calendar.now }
-    requires day { t ≤ case.now.last }
+    requires day { t ≤ calendar.now.case.last }
     requires due { due.now ≡ flows_until
-        case.now (plan_of case.now calendar.now) scenario t t }
+        calendar.now.case (planned calendar.now) scenario t t }
     requires before { before ≡ sum_below t (paid_on
-        case.now (plan_of case.now calendar.now) scenario) }
+        calendar.now.case (planned calendar.now) scenario) }
     ensures { let numbers = sum_numbers
-        case.now (plan_of case.now calendar.now) scenario t in
+        calendar.now.case (planned calendar.now) scenario t in
         MatchOption result (any_leaves numbers ≡ true)
         (λ sums. (sums.0 ≡ paid_on
-        case.now (plan_of case.now calendar.now) scenario t)
+        calendar.now.case (planned calendar.now) scenario t)
         × (sums.1 ≡ cash_of
-        case.now (plan_of case.now calendar.now) scenario t)
+        calendar.now.case (planned calendar.now) scenario t)
         × (any_leaves numbers ≡ false)) }
 {
-    let cash = times(calendar.den, i128::from(case.cash(t)))?;
+    let case = calendar.case();
+    let cash = times(calendar.calendar().den, i128::from(case.cash(t)))?;
     let paid = sum_from(cash, due)?;
     let total = plus(before, paid)?;
     Some((paid, total))
@@ -82,25 +80,19 @@ fn day_sums(
 
 impl Run {
     /// The replay before day 0, or a fault on day 0 where an amount leaves.
-    fn start(
-        alloc: Global,
-        case: &Case,
-        calendar: &Calendar,
-        scenario: usize,
-    ) -> Result<Run, ReplayFault>
-        requires kept { IsCase case.now }
-        requires fits { CalendarFits case.now calendar.now }
+    fn start(alloc: Global, calendar: &CaseCalendar, scenario: usize) -> Result<Run, ReplayFault>
         ensures started { IfOk result (IsRun
-            case.now (plan_of case.now calendar.now) scenario 0) }
+            calendar.now.case (planned calendar.now) scenario 0) }
         ensures stays { IfOk result
-            (λ _. any_leaves (opening_numbers case.now (plan_of case.now calendar.now) 0) ≡ false) }
+            (λ _. any_leaves (opening_numbers calendar.now.case (planned calendar.now) 0) ≡ false) }
         ensures stops { IfErr result
-            (StopsOn scenario 0 (opening_numbers case.now (plan_of case.now calendar.now) 0)) }
+            (StopsOn scenario 0 (opening_numbers calendar.now.case (planned calendar.now) 0)) }
     {
-        let lines = open_lines(alloc, case, calendar, scenario)?;
+        let case = calendar.case();
+        let lines = open_lines(alloc, calendar, scenario)?;
         let days = usize::from(case.last()) + 1;
         let due = DueFlows::none(alloc, days)?;
-        let ledger = empty_ledger(alloc, calendar.den, days)?;
+        let ledger = empty_ledger(alloc, calendar.calendar().den, days)?;
         Ok(Run {
             lines,
             due,
@@ -110,31 +102,23 @@ impl Run {
     }
 
     /// Takes the replay through a day.
-    fn day(
-        &mut self,
-        case: &Case,
-        calendar: &Calendar,
-        scenario: usize,
-        t: u8,
-    ) -> Result<(), ReplayFault>
-        requires kept { IsCase case.now }
-        requires fits { CalendarFits case.now calendar.now }
-        requires scenario { scenario < length case.now.scenarios }
-        requires day { t ≤ case.now.last }
+    fn day(&mut self, calendar: &CaseCalendar, scenario: usize, t: u8) -> Result<(), ReplayFault>
+        requires scenario { scenario < length calendar.now.case.scenarios }
+        requires day { t ≤ calendar.now.case.last }
         requires before { IsRun
-            case.now (plan_of case.now calendar.now) scenario t self.old }
+            calendar.now.case (planned calendar.now) scenario t self.old }
         ensures after { IfOk result (λ _. IsRun
-            case.now (plan_of case.now calendar.now) scenario (suc t) self.new) }
+            calendar.now.case (planned calendar.now) scenario (suc t) self.new) }
         ensures stays { IfOk result
             (λ _. any_leaves (later_numbers
-            case.now (plan_of case.now calendar.now) scenario t) ≡ false) }
+            calendar.now.case (planned calendar.now) scenario t) ≡ false) }
         ensures stops { IfErr result
             (StopsOn scenario t (later_numbers
-            case.now (plan_of case.now calendar.now) scenario t)) }
+            calendar.now.case (planned calendar.now) scenario t)) }
     {
-        day_lines(case, calendar, scenario, t, &mut self.lines, &mut self.due)?;
+        day_lines(calendar, scenario, t, &mut self.lines, &mut self.due)?;
         let due = self.due.on(t);
-        let Some((paid, total)) = day_sums(case, calendar, scenario, t, due, self.total) else {
+        let Some((paid, total)) = day_sums(calendar, scenario, t, due, self.total) else {
             return Err(ReplayFault::TooWide { scenario, day: t });
         };
         self.ledger.paid.set(usize::from(t), paid);
@@ -169,10 +153,25 @@ pub fn replay(
     ensures stops { IfErr result (StopsReplay
         case.now (plan_of case.now calendar.now) scenario) }
 {
-    let last = case.last();
-    let mut run = Run::start(alloc, case, calendar, scenario)?;
+    replay_in(alloc, &CaseCalendar::of(case, calendar), scenario)
+}
+
+/// Replays a calendar in a scenario of its case, day by day.
+pub(crate) fn replay_in(
+    alloc: Global,
+    calendar: &CaseCalendar,
+    scenario: usize,
+) -> Result<Ledger, ReplayFault>
+    requires { scenario < length calendar.now.case.scenarios }
+    ensures replayed { IfOk result (IsLedger
+        calendar.now.case (planned calendar.now) scenario) }
+    ensures stops { IfErr result (StopsReplay
+        calendar.now.case (planned calendar.now) scenario) }
+{
+    let last = calendar.case().last();
+    let mut run = Run::start(alloc, calendar, scenario)?;
     for t in 0..last + 1 {
-        run.day(case, calendar, scenario, t)?;
+        run.day(calendar, scenario, t)?;
     }
     Ok(run.ledger)
 }

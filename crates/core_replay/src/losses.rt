@@ -2,14 +2,15 @@
 ghost use Rattle.std.specs.Prelude.{◌≡◌, ℕ, ◌<◌, ◌≤◌, ◌+◌, pos, neg_ℤ, ◌≤ℤ◌, int_lt, length, if◌then◌else◌, IfOk, IfErr};
 ghost use Rattle.core_sums.specs.Places.{at};
 ghost use Rattle.core_model.specs.Layout.{plan_of};
+ghost use Rattle.core_model.specs.OfCase.{planned};
 ghost use Rattle.core_model.specs.Fits.{CalendarFits, IsKept};
 ghost use Rattle.core_replay.specs.Answers.{IsWorstLoss, StopsWorst};
 ghost use Rattle.core_replay.specs.Worse.{loss_at, IsWorstOfDays};
 
 use crate::fault::ReplayFault;
-use crate::ledger::{Ledger, replay};
+use crate::ledger::{Ledger, replay_in};
 use core_book::Case;
-use core_model::Calendar;
+use core_model::{Calendar, CaseCalendar};
 use std::alloc::Global;
 
 /// The worst loss, as a numerator over the calendar's denominator, with the first scenario (from 0) and in it the
@@ -73,11 +74,22 @@ pub fn worst(alloc: Global, case: &Case, calendar: &Calendar) -> Result<WorstLos
     ensures stops { IfErr result (StopsWorst
         case.now (plan_of case.now calendar.now)) }
 {
+    worst_of(alloc, &CaseCalendar::of(case, calendar))
+}
+
+/// The worst loss of a calendar of a case, with its place.
+fn worst_of(alloc: Global, calendar: &CaseCalendar) -> Result<WorstLoss, ReplayFault>
+    ensures worst { IfOk result (IsWorstLoss
+        calendar.now.case (planned calendar.now)) }
+    ensures stops { IfErr result (StopsWorst
+        calendar.now.case (planned calendar.now)) }
+{
+    let case = calendar.case();
     let last = case.last();
-    let first = replay(alloc, case, calendar, 0)?;
+    let first = replay_in(alloc, calendar, 0)?;
     let mut worst = worst_day(&first, 0, last);
     for scenario in 1..case.scenarios() {
-        let ledger = replay(alloc, case, calendar, scenario)?;
+        let ledger = replay_in(alloc, calendar, scenario)?;
         worst = worse(worst, worst_day(&ledger, scenario, last));
     }
     Ok(worst)

@@ -1,6 +1,5 @@
 // Which row, closing day and tier stand at a place of a list by day.
 ghost use Rattle.std.specs.Prelude.{◌≡◌, ◌*◌, ◌<◌, ◌≤◌};
-ghost use Rattle.core_book.specs.Kept.{IsCase};
 ghost use Rattle.core_book.specs.View.{tiers};
 ghost use Rattle.core_report.specs.Cells.{IsDayCell, IsTierCell};
 
@@ -9,7 +8,6 @@ use core_model::{ClosingCell, DayCell};
 
 /// How many places a list has that runs by day, then by so many rows, then by tier.
 pub(crate) fn tier_places(case: &Case, rows: usize) -> usize
-    requires kept { IsCase case.now }
     requires few { rows ≤ 64 }
     ensures { result ≡ case.now.horizon * (rows * tiers case.now) }
 {
@@ -18,7 +16,6 @@ pub(crate) fn tier_places(case: &Case, rows: usize) -> usize
 
 /// How many places a list has that runs by day, then by so many rows.
 pub(crate) fn day_places(case: &Case, rows: usize) -> usize
-    requires kept { IsCase case.now }
     requires few { rows ≤ 64 }
     ensures { result ≡ case.now.horizon * rows }
 {
@@ -27,11 +24,11 @@ pub(crate) fn day_places(case: &Case, rows: usize) -> usize
 
 /// The closing day, the row and the tier of a place of a list that runs by day, then by so many rows, then by tier.
 pub(crate) fn tier_cell(case: &Case, rows: usize, place: usize) -> ClosingCell
-    requires kept { IsCase case.now }
     requires few { rows ≤ 64 }
     requires place { place < case.now.horizon * (rows * tiers case.now) }
     ensures { IsTierCell case.now rows place result }
 {
+    let _kept = case.horizon();
     let tiers = usize::from(case.tiers());
     let row_and_tier = place % (rows * tiers);
     ClosingCell {
@@ -43,10 +40,10 @@ pub(crate) fn tier_cell(case: &Case, rows: usize, place: usize) -> ClosingCell
 
 /// The closing day and the row of a place of a list that runs by day, then by so many rows.
 pub(crate) fn day_cell(case: &Case, rows: usize, place: usize) -> DayCell
-    requires kept { IsCase case.now }
     requires place { place < case.now.horizon * rows }
     ensures { IsDayCell case.now rows place result }
 {
+    let _kept = case.horizon();
     DayCell {
         row: place % rows,
         day: (place / rows) as u8 + 1,

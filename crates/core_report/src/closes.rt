@@ -1,20 +1,18 @@
 // What a calendar closes, by line, by limit and by pool.
 ghost use Rattle.std.specs.Prelude.{◌≡◌, ◌≤ℤ◌, ◌<◌, ◌++◌, pos, length, OnOk, IfOk};
 ghost use Rattle.core_rows.specs.Written.{rows_text};
-ghost use Rattle.core_book.specs.Kept.{IsCase};
 ghost use Rattle.core_model.specs.Closing.{IsClosingDay, IsTierNumber, line_count};
-ghost use Rattle.core_model.specs.Layout.{plan_of};
-ghost use Rattle.core_model.specs.Fits.{CalendarFits};
+ghost use Rattle.core_model.specs.OfCase.{planned};
 ghost use Rattle.core_report.specs.Report.{AreDates};
 ghost use Rattle.core_report.specs.Records.{close_fields, close_record, close_records, limit_fields, limit_record, limit_records, listed, pool_fields, pool_record, pool_records};
-ghost use Rattle.core_report.specs.Stays.{ClosingsStay};
 
+use crate::accepted::AcceptedCalendar;
 use crate::cells::{day_cell, day_places, tier_cell, tier_places};
 use crate::dates::Dates;
 use crate::row::{Row, put_some};
 use crate::sums::{pool_closed, tier_closed};
 use core_book::Case;
-use core_model::{Calendar, ClosingCell, DayCell};
+use core_model::{ClosingCell, DayCell};
 use std::alloc::{AllocError, Global};
 
 /// A record of a closing that begins with its day, its line and its tier.
@@ -24,13 +22,13 @@ fn close_start(
     dates: &Dates,
     cell: ClosingCell,
 ) -> Result<Row, AllocError>
-    requires kept { IsCase case.now }
     requires dates { AreDates case.now dates.now }
     requires line { cell.row < line_count case.now }
     requires day { IsClosingDay case.now cell.day }
     ensures { IfOk result (λ row. row
         ≡ close_fields case.now dates.now cell.day cell.row cell.tier) }
 {
+    let _kept = case.horizon();
     let mut row = Row::start(alloc, b"close")?;
     row.push_date(dates, cell.day)?;
     row.push_line(case, cell.row)?;
@@ -41,28 +39,23 @@ fn close_start(
 /// What is closed of a line on a day in a tier, none where it is 0.
 fn close_row(
     alloc: Global,
-    case: &Case,
-    dates: &Dates,
-    calendar: &Calendar,
+    accepted: &AcceptedCalendar,
     cell: ClosingCell,
 ) -> Result<Option<Row>, AllocError>
-    requires kept { IsCase case.now }
-    requires dates { AreDates case.now dates.now }
-    requires fits { CalendarFits case.now calendar.now }
-    requires den { pos 1 ≤ℤ calendar.now.den }
-    requires line { cell.row < line_count case.now }
-    requires day { IsClosingDay case.now cell.day }
-    requires tier { IsTierNumber case.now cell.tier }
+    requires line { cell.row < line_count accepted.now.calendar.case }
+    requires day { IsClosingDay accepted.now.calendar.case cell.day }
+    requires tier { IsTierNumber accepted.now.calendar.case cell.tier }
     ensures { IfOk result (λ row. listed row
-        ≡ close_record case.now dates.now (plan_of case.now calendar.now)
+        ≡ close_record accepted.now.calendar.case accepted.now.dates.now
+        (planned accepted.now.calendar)
         cell.day cell.row cell.tier) }
 {
-    let amount = calendar.amount(case, cell.row, cell.day, cell.tier);
+    let amount = accepted.calendar.amount(cell.row, cell.day, cell.tier);
     if amount == 0 {
         return Ok(None);
     }
-    let mut row = close_start(alloc, case, dates, cell)?;
-    row.push_ratio(amount, calendar.den)?;
+    let mut row = close_start(alloc, accepted.case(), accepted.dates, cell)?;
+    row.push_ratio(amount, accepted.den())?;
     Ok(Some(row))
 }
 
@@ -70,20 +63,16 @@ fn close_row(
 pub(crate) fn put_closes(
     alloc: Global,
     out: &mut Vec<u8>,
-    case: &Case,
-    dates: &Dates,
-    calendar: &Calendar,
+    accepted: &AcceptedCalendar,
 ) -> Result<(), AllocError>
-    requires kept { IsCase case.now }
-    requires dates { AreDates case.now dates.now }
-    requires fits { CalendarFits case.now calendar.now }
-    requires den { pos 1 ≤ℤ calendar.now.den }
     ensures { OnOk result (out.new.items ≡ out.old.items
-        ++ rows_text (close_records case.now dates.now (plan_of case.now calendar.now))) }
+        ++ rows_text (close_records accepted.now.calendar.case accepted.now.dates.now
+        (planned accepted.now.calendar))) }
 {
+    let case = accepted.case();
     for place in 0..tier_places(case, case.lines()) {
         let cell = tier_cell(case, case.lines(), place);
-        let row = close_row(alloc, case, dates, calendar, cell)?;
+        let row = close_row(alloc, accepted, cell)?;
         put_some(alloc, out, row)?;
     }
     Ok(())
@@ -96,13 +85,13 @@ pub(crate) fn limit_start(
     dates: &Dates,
     cell: ClosingCell,
 ) -> Result<Row, AllocError>
-    requires kept { IsCase case.now }
     requires dates { AreDates case.now dates.now }
     requires instrument { cell.row < length case.now.instruments }
     requires day { IsClosingDay case.now cell.day }
     ensures { IfOk result (λ row. row
         ≡ limit_fields case.now dates.now cell.day cell.row cell.tier) }
 {
+    let _kept = case.horizon();
     let mut row = Row::start(alloc, b"limit")?;
     row.push_date(dates, cell.day)?;
     row.push_name(case.instrument(cell.row).name)?;
@@ -113,31 +102,27 @@ pub(crate) fn limit_start(
 /// What is closed of an instrument on a day in a tier, and its limit; none where it is 0 or the day is the expiry.
 fn limit_row(
     alloc: Global,
-    case: &Case,
-    dates: &Dates,
-    calendar: &Calendar,
+    accepted: &AcceptedCalendar,
     cell: ClosingCell,
 ) -> Result<Option<Row>, AllocError>
-    requires kept { IsCase case.now }
-    requires dates { AreDates case.now dates.now }
-    requires fits { CalendarFits case.now calendar.now }
-    requires stays { ClosingsStay case.now (plan_of case.now calendar.now) }
-    requires instrument { cell.row < length case.now.instruments }
-    requires day { IsClosingDay case.now cell.day }
-    requires tier { IsTierNumber case.now cell.tier }
+    requires instrument { cell.row < length accepted.now.calendar.case.instruments }
+    requires day { IsClosingDay accepted.now.calendar.case cell.day }
+    requires tier { IsTierNumber accepted.now.calendar.case cell.tier }
     ensures { IfOk result (λ row. listed row
-        ≡ limit_record case.now dates.now (plan_of case.now calendar.now)
+        ≡ limit_record accepted.now.calendar.case accepted.now.dates.now
+        (planned accepted.now.calendar)
         cell.day cell.row cell.tier) }
 {
+    let case = accepted.case();
     if !case.counts(cell.row, cell.day) {
         return Ok(None);
     }
-    let closed = tier_closed(case, calendar, cell);
+    let closed = tier_closed(accepted, cell);
     if closed == 0 {
         return Ok(None);
     }
-    let mut row = limit_start(alloc, case, dates, cell)?;
-    row.push_ratio(closed, calendar.den)?;
+    let mut row = limit_start(alloc, case, accepted.dates, cell)?;
+    row.push_ratio(closed, accepted.den())?;
     row.push_whole(case.limit(cell.row, cell.day, cell.tier))?;
     Ok(Some(row))
 }
@@ -146,20 +131,16 @@ fn limit_row(
 pub(crate) fn put_limits(
     alloc: Global,
     out: &mut Vec<u8>,
-    case: &Case,
-    dates: &Dates,
-    calendar: &Calendar,
+    accepted: &AcceptedCalendar,
 ) -> Result<(), AllocError>
-    requires kept { IsCase case.now }
-    requires dates { AreDates case.now dates.now }
-    requires fits { CalendarFits case.now calendar.now }
-    requires stays { ClosingsStay case.now (plan_of case.now calendar.now) }
     ensures { OnOk result (out.new.items ≡ out.old.items
-        ++ rows_text (limit_records case.now dates.now (plan_of case.now calendar.now))) }
+        ++ rows_text (limit_records accepted.now.calendar.case accepted.now.dates.now
+        (planned accepted.now.calendar))) }
 {
+    let case = accepted.case();
     for place in 0..tier_places(case, case.instruments()) {
         let cell = tier_cell(case, case.instruments(), place);
-        let row = limit_row(alloc, case, dates, calendar, cell)?;
+        let row = limit_row(alloc, accepted, cell)?;
         put_some(alloc, out, row)?;
     }
     Ok(())
@@ -172,12 +153,12 @@ pub(crate) fn pool_start(
     dates: &Dates,
     cell: DayCell,
 ) -> Result<Row, AllocError>
-    requires kept { IsCase case.now }
     requires dates { AreDates case.now dates.now }
     requires pool { cell.row < length case.now.pools }
     requires day { IsClosingDay case.now cell.day }
     ensures { IfOk result (λ row. row ≡ pool_fields case.now dates.now cell.day cell.row) }
 {
+    let _kept = case.horizon();
     let mut row = Row::start(alloc, b"pool")?;
     row.push_date(dates, cell.day)?;
     row.push_name(case.pool(cell.row).name)?;
@@ -187,26 +168,22 @@ pub(crate) fn pool_start(
 /// The weighted closings of a pool on a day, and its cap; none where they are 0.
 fn pool_row(
     alloc: Global,
-    case: &Case,
-    dates: &Dates,
-    calendar: &Calendar,
+    accepted: &AcceptedCalendar,
     cell: DayCell,
 ) -> Result<Option<Row>, AllocError>
-    requires kept { IsCase case.now }
-    requires dates { AreDates case.now dates.now }
-    requires fits { CalendarFits case.now calendar.now }
-    requires stays { ClosingsStay case.now (plan_of case.now calendar.now) }
-    requires pool { cell.row < length case.now.pools }
-    requires day { IsClosingDay case.now cell.day }
+    requires pool { cell.row < length accepted.now.calendar.case.pools }
+    requires day { IsClosingDay accepted.now.calendar.case cell.day }
     ensures { IfOk result (λ row. listed row
-        ≡ pool_record case.now dates.now (plan_of case.now calendar.now) cell.day cell.row) }
+        ≡ pool_record accepted.now.calendar.case accepted.now.dates.now
+        (planned accepted.now.calendar) cell.day cell.row) }
 {
-    let closed = pool_closed(case, calendar, cell.row, cell.day);
+    let case = accepted.case();
+    let closed = pool_closed(accepted, cell.row, cell.day);
     if closed == 0 {
         return Ok(None);
     }
-    let mut row = pool_start(alloc, case, dates, cell)?;
-    row.push_ratio(closed, calendar.den)?;
+    let mut row = pool_start(alloc, case, accepted.dates, cell)?;
+    row.push_ratio(closed, accepted.den())?;
     row.push_whole(case.pool(cell.row).cap)?;
     Ok(Some(row))
 }
@@ -215,20 +192,16 @@ fn pool_row(
 pub(crate) fn put_pools(
     alloc: Global,
     out: &mut Vec<u8>,
-    case: &Case,
-    dates: &Dates,
-    calendar: &Calendar,
+    accepted: &AcceptedCalendar,
 ) -> Result<(), AllocError>
-    requires kept { IsCase case.now }
-    requires dates { AreDates case.now dates.now }
-    requires fits { CalendarFits case.now calendar.now }
-    requires stays { ClosingsStay case.now (plan_of case.now calendar.now) }
     ensures { OnOk result (out.new.items ≡ out.old.items
-        ++ rows_text (pool_records case.now dates.now (plan_of case.now calendar.now))) }
+        ++ rows_text (pool_records accepted.now.calendar.case accepted.now.dates.now
+        (planned accepted.now.calendar))) }
 {
+    let case = accepted.case();
     for place in 0..day_places(case, case.pools()) {
         let cell = day_cell(case, case.pools(), place);
-        let row = pool_row(alloc, case, dates, calendar, cell)?;
+        let row = pool_row(alloc, accepted, cell)?;
         put_some(alloc, out, row)?;
     }
     Ok(())

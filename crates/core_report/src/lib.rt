@@ -2,6 +2,7 @@
 //! its worst scenario and its greatest losses; of weights that refuse every calendar by how much the book is short.
 #![tactic(auto)]
 
+mod accepted;
 mod cells;
 mod closes;
 mod dates;

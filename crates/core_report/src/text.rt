@@ -1,19 +1,17 @@
 // The report of a certificate.
 ghost use Rattle.std.specs.Prelude.{◌≡◌, ◌≤ℤ◌, ◌++◌, ◌∷◌, [], codes, pos, IsTrue, OnOk, IfOk, IfErr};
 ghost use Rattle.core_rows.specs.Written.{rows_text};
-ghost use Rattle.core_book.specs.Kept.{IsCase};
-ghost use Rattle.core_model.specs.Bounds.{AreRefusing};
 ghost use Rattle.core_model.specs.Check.{verdict, Passed};
-ghost use Rattle.core_model.specs.Fits.{CalendarFits, Fits, IsKept, WeightsFit};
-ghost use Rattle.core_model.specs.Layout.{plan_of};
+ghost use Rattle.core_model.specs.Fits.{Fits, IsKept};
+ghost use Rattle.core_model.specs.OfCase.{planned};
 ghost use Rattle.core_model.specs.Shows.{Shows};
 ghost use Rattle.core_cert.specs.Written.{is_plain_word};
 ghost use Rattle.core_replay.specs.Answers.{IsLedger, IsWorstLoss};
 ghost use Rattle.core_report.specs.Ranking.{AreTop};
 ghost use Rattle.core_report.specs.Records.{cannot_records, closes_records, loss_records, ratio_record, rounded_up};
-ghost use Rattle.core_report.specs.Report.{AreDates, IsClosesReport, IsReport, StopsClosing, StopsReport};
-ghost use Rattle.core_report.specs.Stays.{BoundStays, ClosingsStay};
+ghost use Rattle.core_report.specs.Report.{IsClosesReport, IsReport, StopsClosing, StopsReport};
 
+use crate::accepted::{AcceptedCalendar, AcceptedWeights};
 use crate::closes::{put_closes, put_limits, put_pools};
 use crate::dates::Dates;
 use crate::fault::ReportFault;
@@ -22,7 +20,7 @@ use crate::row::{Row, put};
 use crate::top::{Loss, greatest, losses, put_top};
 use crate::weights;
 use core_book::Case;
-use core_model::{Calendar, Cert, Weights};
+use core_model::{CaseCalendar, CaseWeights, Cert};
 use core_replay::{Ledger, WorstLoss, replay, worst};
 use std::alloc::{AllocError, Global};
 
@@ -93,27 +91,23 @@ fn put_loss(alloc: Global, out: &mut Vec<u8>, loss: i128, den: i128) -> Result<(
 }
 
 /// The report of weights that refuse every calendar.
-fn cannot_report(
-    alloc: Global,
-    case: &Case,
-    dates: &Dates,
-    weights: &Weights,
-) -> Result<Vec<u8>, AllocError>
-    requires kept { IsCase case.now }
-    requires dates { AreDates case.now dates.now }
-    requires fits { WeightsFit case.now weights.now }
-    requires refusing { AreRefusing case.now weights.now }
-    requires stays { BoundStays case.now weights.now }
+fn cannot_report(alloc: Global, accepted: &AcceptedWeights) -> Result<Vec<u8>, AllocError>
     ensures { IfOk result (λ text. text.items
-        ≡ rows_text (cannot_records case.now dates.now weights.now)) }
+        ≡ rows_text (cannot_records accepted.now.weights.case accepted.now.dates.now
+        accepted.now.weights.weights)) }
 {
     let mut out = Vec::new(alloc);
     put_words(alloc, &mut out, b"report", b"cannot")?;
-    let short = weights::short(case, weights);
-    put_ratio(alloc, &mut out, b"short", short, weights.den)?;
-    weights::put_fulls(alloc, &mut out, case, weights)?;
-    weights::put_limits(alloc, &mut out, case, dates, weights)?;
-    weights::put_pools(alloc, &mut out, case, dates, weights)?;
+    put_ratio(
+        alloc,
+        &mut out,
+        b"short",
+        weights::short(accepted),
+        accepted.den(),
+    )?;
+    weights::put_fulls(alloc, &mut out, accepted)?;
+    weights::put_limits(alloc, &mut out, accepted)?;
+    weights::put_pools(alloc, &mut out, accepted)?;
     put_end(alloc, &mut out)?;
     Ok(out)
 }
@@ -121,55 +115,52 @@ fn cannot_report(
 /// The records of a calendar's report, with its worst loss, the ledger of that scenario and its greatest losses.
 fn closes_text(
     alloc: Global,
-    case: &Case,
-    dates: &Dates,
-    calendar: &Calendar,
+    accepted: &AcceptedCalendar,
     worst: WorstLoss,
     ledger: &Ledger,
     top: &[Loss],
 ) -> Result<Vec<u8>, AllocError>
-    requires kept { IsCase case.now }
-    requires dates { AreDates case.now dates.now }
-    requires fits { CalendarFits case.now calendar.now }
-    requires stays { ClosingsStay case.now (plan_of case.now calendar.now) }
-    requires worst { IsWorstLoss case.now (plan_of case.now calendar.now) worst }
+    requires worst { IsWorstLoss accepted.now.calendar.case (planned accepted.now.calendar) worst }
     requires ledger { IsLedger
-        case.now (plan_of case.now calendar.now) worst.scenario ledger.now }
-    requires top { AreTop case.now (plan_of case.now calendar.now) top.now }
+        accepted.now.calendar.case (planned accepted.now.calendar) worst.scenario ledger.now }
+    requires top { AreTop accepted.now.calendar.case (planned accepted.now.calendar) top.now }
     ensures { IfOk result (λ text. text.items ≡ rows_text (closes_records
-        case.now dates.now (plan_of case.now calendar.now) worst.scenario top.now)) }
+        accepted.now.calendar.case accepted.now.dates.now
+        (planned accepted.now.calendar) worst.scenario top.now)) }
 {
     let mut out = Vec::new(alloc);
     put_words(alloc, &mut out, b"report", b"closes")?;
-    put_loss(alloc, &mut out, worst.loss, calendar.den)?;
-    put_closes(alloc, &mut out, case, dates, calendar)?;
-    put_limits(alloc, &mut out, case, dates, calendar)?;
-    put_pools(alloc, &mut out, case, dates, calendar)?;
-    put_ledger(alloc, &mut out, case, dates, ledger, worst.scenario)?;
-    put_top(alloc, &mut out, case, dates, calendar, top)?;
+    put_loss(alloc, &mut out, worst.loss, accepted.den())?;
+    put_closes(alloc, &mut out, accepted)?;
+    put_limits(alloc, &mut out, accepted)?;
+    put_pools(alloc, &mut out, accepted)?;
+    let case = accepted.case();
+    put_ledger(
+        alloc,
+        &mut out,
+        case,
+        accepted.dates,
+        ledger,
+        worst.scenario,
+    )?;
+    put_top(alloc, &mut out, accepted, top)?;
     put_end(alloc, &mut out)?;
     Ok(out)
 }
 
 /// The report of a calendar.
-fn closes_report(
-    alloc: Global,
-    case: &Case,
-    dates: &Dates,
-    calendar: &Calendar,
-) -> Result<Vec<u8>, ReportFault>
-    requires kept { IsCase case.now }
-    requires dates { AreDates case.now dates.now }
-    requires fits { CalendarFits case.now calendar.now }
-    requires stays { ClosingsStay case.now (plan_of case.now calendar.now) }
+fn closes_report(alloc: Global, accepted: &AcceptedCalendar) -> Result<Vec<u8>, ReportFault>
     ensures text { IfOk result (λ text.
-        IsClosesReport case.now (plan_of case.now calendar.now) text.items) }
-    ensures stops { IfErr result (StopsClosing case.now (plan_of case.now calendar.now)) }
+        IsClosesReport accepted.now.calendar.case (planned accepted.now.calendar) text.items) }
+    ensures stops { IfErr result (StopsClosing accepted.now.calendar.case
+        (planned accepted.now.calendar)) }
 {
+    let case = accepted.case();
+    let calendar = accepted.calendar.calendar();
     let worst = worst(alloc, case, calendar)?;
     let ledger = replay(alloc, case, calendar, worst.scenario)?;
-    let top = greatest(alloc, losses(alloc, case, calendar)?)?;
-    let text = closes_text(alloc, case, dates, calendar, worst, &ledger, &top)?;
+    let top = greatest(alloc, losses(alloc, accepted)?)?;
+    let text = closes_text(alloc, accepted, worst, &ledger, &top)?;
     Ok(text)
 }
 
@@ -199,7 +190,15 @@ pub fn report(alloc: Global, case: &Case, cert: &Cert) -> Result<Vec<u8>, Report
     let _kept = case.horizon();
     let dates = Dates::of_case(alloc, case)?;
     match cert {
-        Cert::Closes { calendar, .. } => closes_report(alloc, case, &dates, calendar),
-        Cert::Cannot { weights } => Ok(cannot_report(alloc, case, &dates, weights)?),
+        Cert::Closes { calendar, .. } => {
+            let calendar = CaseCalendar::of(case, calendar);
+            let dates = &dates;
+            closes_report(alloc, &AcceptedCalendar { calendar, dates })
+        }
+        Cert::Cannot { weights } => {
+            let weights = CaseWeights::of(case, weights);
+            let dates = &dates;
+            Ok(cannot_report(alloc, &AcceptedWeights { weights, dates })?)
+        }
     }
 }

@@ -7,8 +7,8 @@ ghost use Rattle.std.specs.Ordering.{int_cmp, nat_cmp, on, flip_args, then_cmp, 
 ghost use Rattle.itertools.specs.Extremes.{IsKLeast, by_cmp};
 ghost use Rattle.core_sums.specs.Places.{at};
 ghost use Rattle.core_rows.specs.Written.{rows_text};
-ghost use Rattle.core_model.specs.Layout.{plan_of};
-ghost use Rattle.core_model.specs.Fits.{AreKept, CalendarFits, IsKept};
+ghost use Rattle.core_model.specs.OfCase.{planned};
+ghost use Rattle.core_model.specs.Fits.{AreKept, IsKept};
 ghost use Rattle.core_replay.specs.Ledger.{NoneLeaves};
 ghost use Rattle.core_report.specs.declared.fault.ReportFault.TheVariants.{NoMemory};
 ghost use Rattle.core_report.specs.Ranking.{loss_on, losses, losses_by_day};
@@ -16,12 +16,12 @@ ghost use Rattle.core_report.specs.Records.{loss_at, top_record, top_records};
 ghost use Rattle.core_report.specs.Report.{AreDates};
 ghost use Rattle.core_report.specs.Stays.{IsPlaced};
 
+use crate::accepted::AcceptedCalendar;
 use crate::dates::Dates;
 use crate::fault::ReportFault;
 use crate::numbers::number;
 use crate::row::{Row, put};
 use core_book::Case;
-use core_model::Calendar;
 use core_replay::{Ledger, replay};
 use itertools::Itertools;
 use std::alloc::{AllocError, Global};
@@ -98,18 +98,14 @@ fn put_losses(
 }
 
 /// The losses of all scenarios, by scenario and then by house day, of a calendar whose replays stay within 128 bits.
-pub(crate) fn losses(
-    alloc: Global,
-    case: &Case,
-    calendar: &Calendar,
-) -> Result<Vec<Loss>, ReportFault>
-    requires fits { CalendarFits case.now calendar.now }
-    requires den { pos 1 ≤ℤ calendar.now.den }
-    requires stays { NoneLeaves case.now (plan_of case.now calendar.now) }
+pub(crate) fn losses(alloc: Global, accepted: &AcceptedCalendar) -> Result<Vec<Loss>, ReportFault>
+    requires stays { NoneLeaves accepted.now.calendar.case (planned accepted.now.calendar) }
     ensures listed { IfOk result (λ list. list.items
-        ≡ losses case.now (plan_of case.now calendar.now)) }
+        ≡ losses accepted.now.calendar.case (planned accepted.now.calendar)) }
     ensures memory { IfErr result (λ fault. fault ≡ NoMemory) }
 {
+    let case = accepted.case();
+    let calendar = accepted.calendar.calendar();
     let mut list = Vec::new(alloc);
     for scenario in 0..case.scenarios() {
         let ledger = replay(alloc, case, calendar, scenario)?;
@@ -152,20 +148,20 @@ fn top_row(
 pub(crate) fn put_top(
     alloc: Global,
     out: &mut Vec<u8>,
-    case: &Case,
-    dates: &Dates,
-    calendar: &Calendar,
+    accepted: &AcceptedCalendar,
     top: &[Loss],
 ) -> Result<(), AllocError>
-    requires dates { AreDates case.now dates.now }
-    requires den { pos 1 ≤ℤ calendar.now.den }
     requires few { length top.now ≤ 5 }
-    requires placed { (n : ℕ) → n < length top.now → IsPlaced case.now (loss_at top.now n) }
+    requires placed { (n : ℕ) → n < length top.now → IsPlaced accepted.now.calendar.case (loss_at
+        top.now n) }
     ensures { OnOk result (out.new.items ≡ out.old.items
-        ++ rows_text (top_records case.now dates.now calendar.now.den top.now)) }
+        ++ rows_text (top_records accepted.now.calendar.case accepted.now.dates.now
+        accepted.now.calendar.calendar.den top.now)) }
 {
+    let case = accepted.case();
+    let den = accepted.den();
     for n in 0..top.len() {
-        let row = top_row(alloc, case, dates, calendar.den, n + 1, top[n])?;
+        let row = top_row(alloc, case, accepted.dates, den, n + 1, top[n])?;
         put(alloc, out, &row)?;
     }
     Ok(())

@@ -4,24 +4,24 @@ use Rattle.std.proofs.lemmas.Int.{ints, to_z-of_z}
 use Rattle.core_sums.proofs.Ring.{neg-*ℤ}
 use Rattle.core_book.specs.View.{instrument_of, is_open, cost}
 use Rattle.core_model.specs.Closing.{cost_flow}
-use Rattle.core_model.specs.Layout.{plan_of}
+use Rattle.core_model.specs.OfCase.{planned}
 use Rattle.core_wide.specs.Steps.{Leaves, Stays}
 use Rattle.core_replay.proofs.LineFlows.{cost-within}
 use Rattle.core_replay.proofs.flows.cost_flow.Goals as goal
 
 pub returns-then-t-horizon : goal.returns-then-t-horizon
 returns-then-t-horizon c =
-    let case = c.args.case.now in
-    let a = plan_of case c.args.calendar.now in
+    let case = c.args.calendar.now.case in
+    let a = planned c.args.calendar.now in
     let i = instrument_of case c.args.l in
-    let opens : is_open case i c.args.t ≡ true = ap (λ x. is_open case x.instrument c.args.t) (sym c.line-i.ensures) ∙ sym c.is_open.ensures ∙ c.if-is_open.true in
-    let within : c.args.t ≤ case.horizon = omega (arith, c.if-t-horizon.true, c.horizon.ensures.value) in
+    let opens : is_open case i c.args.t ≡ true = ap (λ x. is_open case x.instrument c.args.t) (sym (rw c.case-case.ensures.value at c.line-i.ensures)) ∙ sym (rw c.case-case.ensures.value at c.is_open.ensures) ∙ c.if-is_open.true in
+    let within : c.args.t ≤ case.horizon = omega (arith, c.if-t-horizon.true, (rw c.case-case.ensures.value at c.horizon.ensures.value)) in
     let narrow : FitsSigned w64 c.cost-cost.result = search rules in
     let wide : FitsSigned w128 c.from.result = search rules in
     let low : FitsSigned w128 (pos 0 +ℤ neg_ℤ c.from.result) = search rules in
     let amount : FitsSigned w128 c.amount.result = search rules in
     let price : c.from.result ≡ cost case i c.args.j =
-    (simp to_z-of_z at c.from.ensures) ∙ c.cost-cost.ensures ∙ ap (λ x. cost case x.instrument c.args.j) c.line-i.ensures in
+    (simp to_z-of_z at c.from.ensures) ∙ (rw c.case-case.ensures.value at c.cost-cost.ensures) ∙ ap (λ x. cost case x.instrument c.args.j) (rw c.case-case.ensures.value at c.line-i.ensures) in
     let none : pos 0 +ℤ neg_ℤ c.from.result ≡ neg_ℤ c.from.result = omega (arith, ints) in
     let value : (pos 0 +ℤ neg_ℤ c.from.result) *ℤ c.amount.result ≡ cost_flow case a c.args.l c.args.t c.args.j =
     ap (λ z. z *ℤ c.amount.result) none

@@ -1,6 +1,6 @@
 use Rattle.std.proofs.Common.{◌≡◌, rules, arith, sym, subst, ◌<◌, ◌+◌, ◌-◌, ℕ, length, false, below_more}
 use Rattle.core_model.specs.Closing.{line_count}
-use Rattle.core_model.specs.Layout.{plan_of}
+use Rattle.core_model.specs.OfCase.{planned}
 use Rattle.core_sums.specs.Widths.{any_leaves}
 use Rattle.core_replay.specs.Ledger.{line_numbers, lines_numbers}
 use Rattle.core_replay.specs.Steps.{AreDue}
@@ -11,8 +11,8 @@ use Rattle.core_replay.proofs.lines.replay_lines.Goals as goal
 
 pub returns-in_err-lines-clause-stops : goal.returns-in_err-lines-clause-stops
 returns-in_err-lines-clause-stops c =
-    let case = c.args.case.now in
-    let a = plan_of case c.args.calendar.now in
+    let case = c.args.calendar.now.case in
+    let a = planned c.args.calendar.now in
     let below : c.loop-l.l < line_count case = omega (arith, c.loop-l-test.true, c.len-l-end.ensures, c.requires.standing.count) in
     let stops = stops-more c.args.scenario c.args.t (line_numbers case a c.args.scenario c.args.t c.loop-l.l) (lines_numbers case a c.args.scenario c.args.t)
     c.in_err-lines.field-0.0
@@ -22,8 +22,8 @@ returns-in_err-lines-clause-stops c =
 
 pub loop-l-preserved : goal.loop-l-preserved
 loop-l-preserved c =
-    let case = c.args.case.now in
-    let a = plan_of case c.args.calendar.now in
+    let case = c.args.calendar.now.case in
+    let a = planned c.args.calendar.now in
     let inside : c.loop-l.l < length c.loop-l.lines.items = omega (arith, c.loop-l-test.true, c.len-l-end.ensures, c.requires.standing.count, c.loop-l.invariant.standing.count) in
     record {
       standing = standing-more case a c.args.t c.loop-l.l c.loop-l.lines.items c.in_ok-lines.field-0 inside c.loop-l.invariant.standing c.in_ok-lines.ensures.next;
@@ -34,15 +34,15 @@ loop-l-preserved c =
 
 pub returns-clause-standing : goal.returns-clause-standing
 returns-clause-standing c =
-    let done : c.loop-l.l ≡ line_count c.args.case.now = omega (arith, c.loop-l-test.false, c.loop-l.auto.l-end, c.len-l-end.ensures, c.requires.standing.count) in
-    standing-done c.args.case.now (plan_of c.args.case.now c.args.calendar.now) c.args.t c.loop-l.l c.loop-l.lines.items done c.loop-l.invariant.standing
+    let done : c.loop-l.l ≡ line_count c.args.calendar.now.case = omega (arith, c.loop-l-test.false, c.loop-l.auto.l-end, c.len-l-end.ensures, c.requires.standing.count) in
+    standing-done c.args.calendar.now.case (planned c.args.calendar.now) c.args.t c.loop-l.l c.loop-l.lines.items done c.loop-l.invariant.standing
 
 pub returns-clause-due : goal.returns-clause-due
 returns-clause-due c =
-    let done : c.loop-l.l ≡ line_count c.args.case.now = omega (arith, c.loop-l-test.false, c.loop-l.auto.l-end, c.len-l-end.ensures, c.requires.standing.count) in
-    due-end c.args.case.now (plan_of c.args.case.now c.args.calendar.now) c.args.scenario c.args.t c.loop-l.l c.loop-l.due c.requires.from done c.loop-l.invariant.due
+    let done : c.loop-l.l ≡ line_count c.args.calendar.now.case = omega (arith, c.loop-l-test.false, c.loop-l.auto.l-end, c.len-l-end.ensures, c.requires.standing.count) in
+    due-end c.args.calendar.now.case (planned c.args.calendar.now) c.args.scenario c.args.t c.loop-l.l c.loop-l.due c.requires.from done c.loop-l.invariant.due
 
 pub returns-clause-stays : goal.returns-clause-stays
 returns-clause-stays c =
-    let done : c.loop-l.l ≡ line_count c.args.case.now = omega (arith, c.loop-l-test.false, c.loop-l.auto.l-end, c.len-l-end.ensures, c.requires.standing.count) in
-    lines-stay c.args.case.now (plan_of c.args.case.now c.args.calendar.now) c.args.scenario c.args.t c.loop-l.l c.requires.from done c.loop-l.invariant.stays
+    let done : c.loop-l.l ≡ line_count c.args.calendar.now.case = omega (arith, c.loop-l-test.false, c.loop-l.auto.l-end, c.len-l-end.ensures, c.requires.standing.count) in
+    lines-stay c.args.calendar.now.case (planned c.args.calendar.now) c.args.scenario c.args.t c.loop-l.l c.requires.from done c.loop-l.invariant.stays

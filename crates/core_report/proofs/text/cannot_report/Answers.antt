@@ -8,13 +8,13 @@ use Rattle.core_report.proofs.text.cannot_report.Goals as goal
 
 pub returns : goal.returns
 returns c =
-    let case = c.args.case.now in
-    let w = c.args.weights.now in
+    let case = c.args.accepted.now.weights.case in
+    let w = c.args.accepted.now.weights.weights in
     let one : List Record = (codes "report" ∷ codes "cannot" ∷ []) ∷ [] in
     let two : List Record = ratio_record (codes "short") (total (bound_terms case w)) w.den ∷ [] in
     let three : List Record = full_weight_records case w in
-    let four : List Record = limit_weight_records case c.args.dates.now w in
-    let five : List Record = pool_weight_records case c.args.dates.now w in
+    let four : List Record = limit_weight_records case c.args.accepted.now.dates.now w in
+    let five : List Record = pool_weight_records case c.args.accepted.now.dates.now w in
     let six : List Record = (codes "end" ∷ []) ∷ [] in
     let words = c.put_words.new.out.items in
     let short = c.put_ratio.new.out.items in

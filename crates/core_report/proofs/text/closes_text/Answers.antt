@@ -6,7 +6,7 @@ use Rattle.core_rows.specs.Names.{Record}
 use Rattle.core_sums.specs.Places.{at}
 use Rattle.core_model.specs.Closing.{cash_of, worst_loss}
 use Rattle.core_model.specs.Fits.{IsKept}
-use Rattle.core_model.specs.Layout.{plan_of}
+use Rattle.core_model.specs.OfCase.{planned}
 use Rattle.core_replay.specs.Ledger.{paid_on}
 use Rattle.core_report.specs.Records.{close_records, ledger_records, limit_records, loss_records, pool_records, top_records}
 use Rattle.core_report.proofs.Printed.{Prints, prints-on, prints-same}
@@ -16,8 +16,8 @@ use Rattle.core_report.proofs.text.closes_text.Goals as goal
 
 pub put_loss-requires-clause-loss : goal.put_loss-requires-clause-loss
 put_loss-requires-clause-loss c =
-    let case = c.args.case.now in
-    let a = plan_of case c.args.calendar.now in
+    let case = c.args.accepted.now.calendar.case in
+    let a = planned c.args.accepted.now.calendar in
     let worst = c.args.worst in
     let is = c.requires.worst in
     let kept = subst IsKept (is.place.worst ∙ sym is.loss)
@@ -26,17 +26,18 @@ put_loss-requires-clause-loss c =
 
 pub put_ledger-requires-clause-kept : goal.put_ledger-requires-clause-kept
 put_ledger-requires-clause-kept c =
-    ledger-kept c.args.case.now (plan_of c.args.case.now c.args.calendar.now) c.args.worst.scenario c.args.ledger.now c.requires.stays.den c.requires.ledger
+    rw c.case-case.ensures.value
+    (ledger-kept c.args.accepted.now.calendar.case (planned c.args.accepted.now.calendar) c.args.worst.scenario c.args.ledger.now c.args.accepted.now.stays.den c.requires.ledger)
 
 pub put_top-requires-clause-placed : goal.put_top-requires-clause-placed
 put_top-requires-clause-placed c =
-    top-placed c.args.case.now (plan_of c.args.case.now c.args.calendar.now) c.args.top.now c.requires.worst.stays c.requires.top
+    top-placed c.args.accepted.now.calendar.case (planned c.args.accepted.now.calendar) c.args.top.now c.requires.worst.stays c.requires.top
 
 pub returns : goal.returns
 returns c =
-    let case = c.args.case.now in
-    let dates = c.args.dates.now in
-    let a = plan_of case c.args.calendar.now in
+    let case = c.args.accepted.now.calendar.case in
+    let dates = c.args.accepted.now.dates.now in
+    let a = planned c.args.accepted.now.calendar in
     let k = c.args.worst.scenario in
     let ledger = c.args.ledger.now in
     let one : List Record = (codes "report" ∷ codes "closes" ∷ []) ∷ [] in

@@ -7,4 +7,4 @@ use Rattle.core_report.proofs.weights.put_pools.Given as goal
 
 abbrev pub invariant-loop-place : goal.invariant-loop-place
 invariant-loop-place l =
-    Prints l.fn.out.items (each (below l.place) (at_day (length l.case.pools) (pool_weight_record l.case l.dates l.weights))) l.out.items
+    Prints l.fn.out.items (each (below l.place) (at_day (length l.accepted.weights.case.pools) (pool_weight_record l.accepted.weights.case l.accepted.dates.now l.accepted.weights.weights))) l.out.items

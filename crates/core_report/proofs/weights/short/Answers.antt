@@ -9,9 +9,9 @@ use Rattle.core_report.proofs.weights.short.Goals as goal
 
 pub returns-clause-kept : goal.returns-clause-kept
 returns-clause-kept c =
-    let case = c.args.case.now in
-    let w = c.args.weights.now in
+    let case = c.args.accepted.now.weights.case in
+    let w = c.args.accepted.now.weights.weights in
     let fits : FitsSigned w128 c.unwrap_or.result = search rules in
     let value : c.unwrap_or.result ≡ total (bound_terms case w) = c.unwrap_or.ensures ∙ ap (λ o. unwrap_or o (pos 0)) c.bound.ensures in
     simp to_z-of_z (sum-kept c.unwrap_or.result (refusing_terms case w) (refusing_terms case w)
-    (bound-formed case w c.requires.fits c.requires.refusing c.requires.stays ∙ ap Some (sym value)))
+    (bound-formed case w c.case-fits.ensures.fits c.args.accepted.now.refusing c.args.accepted.now.stays ∙ ap Some (sym value)))
