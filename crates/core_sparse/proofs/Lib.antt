@@ -1,5 +1,6 @@
 mod Places
 mod Walks
+mod Nexts
 mod Merging
 mod Others
 mod Dividing
