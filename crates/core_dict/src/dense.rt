@@ -8,7 +8,7 @@ use crate::fill::{costs, room, slots, variables, zeros};
 use crate::row::{Row, Slot};
 use crate::steps::{exchange_all, make_others, other_entries, own_row};
 use crate::widen::{wide_numbers, wide_slots};
-use crate::{PivotFault, Programme, Store, Widen};
+use crate::{PivotFault, Programme, RowEntry, Store, Widen};
 use exact_frac::{Exact, Frac64, Frac128, Left};
 use std::alloc::{AllocError, Global};
 use std::mem;
@@ -125,6 +125,10 @@ impl<E: Exact> Store<E> for Dense<E> {
 
     fn entry(&self, row: usize, col: usize) -> E {
         self.slots[row].row.entries[col]
+    }
+
+    fn next_entry(&self, row: usize, from: usize, _place: usize) -> Option<RowEntry<E>> {
+        self.slots[row].row.next_entry(from)
     }
 
     fn cost(&self, col: usize) -> E {

@@ -5,6 +5,7 @@ ghost use Rattle.fractions.specs.Fraction.{zero_q};
 ghost use Rattle.core_dict.specs.Dictionary.{Dictionary, start as start_of, slack_of, IsDictionary};
 ghost use Rattle.core_dict.specs.Pivot.{pivot as pivot_of};
 ghost use Rattle.core_dict.specs.Leaving.{PivotLeaves};
+ghost use Rattle.core_dict.specs.NextEntry.{IsNextEntry};
 ghost use Rattle.core_dict.specs.Shift.{shifted, ShiftLeaves};
 
 use crate::Programme;
@@ -18,6 +19,14 @@ pub enum PivotFault {
     Left,
     /// Memory was refused.
     NoMemory,
+}
+
+/// An entry of a row that is not 0, and the place where a search for the next one begins.
+#[derive(Clone, Copy, Debug)]
+pub struct RowEntry<E> {
+    pub col: usize,
+    pub value: E,
+    pub place: usize,
 }
 
 /// A dictionary. Rows and columns are known by their positions from 0, variables by their numbers
@@ -63,6 +72,14 @@ pub trait Store<E: Exact>: Sized + Drop {
         requires row_in { row < (dictionary self.now).rows }
         requires col_in { col < (dictionary self.now).cols }
         ensures { E.value result ≡ (dictionary self.now).entry row col };
+
+    /// The first entry of a row, from a column on, that is not 0, or none. The search begins at
+    /// `place`: no column and no value depends on it, and an answer's own place is the quickest for
+    /// the columns behind it.
+    fn next_entry(&self, row: usize, from: usize, place: usize) -> Option<RowEntry<E>>
+        requires { row < (dictionary self.now).rows }
+        ensures { let d = dictionary self.now in
+            IsNextEntry E.value d.cols (d.entry row) from result };
 
     /// The cost of a column.
     fn cost(&self, col: usize) -> E

@@ -1,14 +1,25 @@
 -- What is kept of the columns after one more.
-use Rattle.std.proofs.Common.{◌≡◌, ◌≢◌, ap, ap₂, sym, ◌∙◌, ℕ, ◌+◌, Bool, true, false, Option, None, Some, subst}
-use Rattle.fractions.specs.Fraction.{Fraction, zero_q, ◌/ℚ◌, neg_ℚ}
+use Rattle.std.proofs.Common.{◌≡◌, ◌≢◌, ap, ap₂, sym, refl, ◌∙◌, ℕ, zero, suc, ◌+◌, ◌<◌, ◌≤◌, ◌⊎◌, inl, inr, arith}
+use Rattle.std.proofs.Common.{Bool, true, false, Option, None, Some, subst}
+use Rattle.std.proofs.lemmas.Bool.{cases_eq, cases_lt}
+use Rattle.fractions.specs.Fraction.{Fraction, zero_q, ◌/ℚ◌, neg_ℚ, lt_q}
 use Rattle.fractions.proofs.Laws.{lt_q-true}
-use Rattle.fractions.proofs.Signs.{neg_above, not_zero_above}
+use Rattle.fractions.proofs.Signs.{neg_above, not_zero_above, not_zero_below}
 use Rattle.core_dict.specs.Dictionary.{Dictionary}
+use Rattle.core_dict.specs.NextEntry.{AreZero}
 use Rattle.core_rules.specs.Candidates.{Candidate, lower_value}
 use Rattle.core_run.specs.Choice.{is_negative, column_candidate}
-use Rattle.core_run.specs.Kept.{IsPickedAt, HasKeptColumn, column_of}
+use Rattle.core_run.specs.Kept.{IsPickedAt, HasKeptColumn, ColumnLeaves, column_of}
 use Rattle.core_run.specs.declared.entering.KeptColumn.{KeptColumn}
 use Rattle.core_run.proofs.Picks.{none_more, passed_over, first_picked, preferred, not_preferred}
+
+-- 0 is not negative
+zero_passed : (q : Fraction) → q ≡ zero_q → is_negative q ≡ false
+zero_passed q e = by (lt_q q zero_q) refl
+  where
+    by : (b : Bool) → lt_q q zero_q ≡ b → b ≡ false
+    by false f = refl
+    by true f = absurd (not_zero_below (lt_q-true q zero_q f) e)
 
 -- minus a negative fraction is not 0
 pub minus_not_zero : (q m : Fraction) (t : Bool) → t ≡ is_negative q → t ≡ true → m ≡ neg_ℚ q → m ≢ zero_q
@@ -58,3 +69,26 @@ module _ {E : Type 0} (value : E → Fraction) (d : Dictionary) (r n : ℕ) wher
     column_stays b t s =
         not_preferred lower_value passes (column_candidate d r) n k.col (column_of value k)
         (column_of value x) e (subst (HasKeptColumn value d r n) f h) is (sym t ∙ s)
+
+-- columns whose entries are 0 change nothing
+pub columns_passed : {E : Type 0} (value : E → Fraction) (d : Dictionary) (r n m : ℕ) (kept : Option (KeptColumn E))
+    → n ≤ m → AreZero (d.entry r) n m → HasKeptColumn value d r n kept → HasKeptColumn value d r m kept
+columns_passed value d r n zero kept l z h = subst (λ (k : ℕ). HasKeptColumn value d r k kept) (omega arith) h
+columns_passed value d r n (suc m) kept l z h =
+    by (cases_eq n (suc m)) (λ o. columns_passed value d r n m kept o (λ j a b. z j a (omega arith)) h)
+  where
+    by : (n ≡ suc m) ⊎ (n ≢ suc m) → (n ≤ m → HasKeptColumn value d r m kept)
+        → HasKeptColumn value d r (suc m) kept
+    by (inl e) rest = subst (λ (k : ℕ). HasKeptColumn value d r k kept) e h
+    by (inr ne) rest = subst (λ (k : ℕ). HasKeptColumn value d r k kept) (omega arith)
+        (column_passed value d r m kept (zero_passed (d.entry r m) (z m (omega arith) (omega arith)))
+        (rest (omega arith)))
+
+-- and none of them leaves
+pub none_leaves : (most : ℕ) (d : Dictionary) (r n m : ℕ) → AreZero (d.entry r) n m
+    → ((j : ℕ) → j < n → ¬ (ColumnLeaves most d r j)) → (j : ℕ) → j < m → ¬ (ColumnLeaves most d r j)
+none_leaves most d r n m z f j l k = by (cases_lt j n)
+  where
+    by : (j < n) ⊎ (n ≤ j) → ⊥
+    by (inl o) = f j o k
+    by (inr o) = not_zero_below k.negative (z j o l)

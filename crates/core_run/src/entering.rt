@@ -6,7 +6,7 @@ ghost use Rattle.core_run.specs.Kept.{ColumnLeaves, HasKeptColumn, column_of};
 ghost use Rattle.core_run.specs.Widths.{RatioLeaves};
 
 use crate::signs::is_negative;
-use core_dict::Store;
+use core_dict::{RowEntry, Store};
 use exact_frac::{Exact, Left};
 use std::cmp::Ordering;
 
@@ -39,36 +39,46 @@ pub fn entering_column<E: Exact, D: Store<E>>(dict: &D, row: usize) -> Result<Op
     ensures chosen { IfOk result (λ col. col ≡ entering_column_of (D.dictionary dict.now) row) }
     ensures left { IsErr result ↔ RatioLeaves (unsigned_abs E.MOST) (D.dictionary dict.now) row }
 {
+    let cols = dict.cols();
     let mut kept = None;
-    for col in 0..dict.cols() {
-        kept = column_kept_after(dict, row, col, kept)?;
+    let mut from = 0;
+    let mut place = 0;
+    while from < cols {
+        match dict.next_entry(row, from, place) {
+            Some(next) => {
+                kept = column_kept_after(dict, row, next, kept)?;
+                from = next.col + 1;
+                place = next.place;
+            }
+            None => from = cols,
+        }
     }
     Ok(kept.map(|k: KeptColumn<E>| k.col))
 }
 
-// What is kept after one more column. Left exactly where its entry is negative and its ratio
-// leaves.
+// What is kept after the column of one more entry. Left exactly where the entry is negative and
+// the column's ratio leaves.
 fn column_kept_after<E: Exact, D: Store<E>>(
     dict: &D,
     row: usize,
-    col: usize,
+    entry: RowEntry<E>,
     kept: Option<KeptColumn<E>>,
 ) -> Result<Option<KeptColumn<E>>, Left>
-    requires row_in { row < (D.dictionary dict.now).rows }
-    requires col_in { col < (D.dictionary dict.now).cols }
-    requires kept { HasKeptColumn E.value (D.dictionary dict.now) row col kept }
-    ensures kept { IfOk result (HasKeptColumn E.value (D.dictionary dict.now) row (col + 1)) }
+    requires col_in { entry.col < (D.dictionary dict.now).cols }
+    requires entry { E.value entry.value ≡ (D.dictionary dict.now).entry row entry.col }
+    requires kept { HasKeptColumn E.value (D.dictionary dict.now) row entry.col kept }
+    ensures kept { let d = D.dictionary dict.now in
+        IfOk result (HasKeptColumn E.value d row (entry.col + 1)) }
     ensures left { let d = D.dictionary dict.now in
-        IsErr result ↔ ColumnLeaves (unsigned_abs E.MOST) d row col }
+        IsErr result ↔ ColumnLeaves (unsigned_abs E.MOST) d row entry.col }
 {
-    let entry = dict.entry(row, col);
-    if !is_negative(entry) {
+    if !is_negative(entry.value) {
         return Ok(kept);
     }
     let next = KeptColumn {
-        col,
-        var: dict.nonbasic(col),
-        ratio: dict.cost(col).over(entry.negated())?,
+        col: entry.col,
+        var: dict.nonbasic(entry.col),
+        ratio: dict.cost(entry.col).over(entry.value.negated())?,
     };
     let Some(held) = kept else {
         return Ok(Some(next));

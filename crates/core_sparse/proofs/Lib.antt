@@ -1,6 +1,7 @@
 mod Places
 mod Walks
 mod Copying
+mod Nexts
 mod Merging
 mod Others
 mod Dividing

@@ -21,7 +21,7 @@ module _ {E : Type 0} (xs : List (Item E)) where
       by (inr ne) = let r : col_at xs i < col_at xs k = h i k (omega arith) m in omega arith
 
   -- the column at which a walk is, or the number of columns
-  head_within : (n i : ℕ) → i < length xs → get_or (columns xs) i n ≡ col_at xs i
+  pub head_within : (n i : ℕ) → i < length xs → get_or (columns xs) i n ≡ col_at xs i
   head_within n i l =
       get_or_default (columns xs) i n 0 (subst (λ (m : ℕ). i < m) (sym (length-map xs (λ (x : Item E). x.col))) l)
 

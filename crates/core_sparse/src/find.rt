@@ -1,8 +1,11 @@
 // Where an item of a row stands.
-ghost use Rattle.std.specs.Prelude.{◌≡◌, ◌≤◌, suc, get_or, length};
-ghost use Rattle.core_sparse.specs.Items.{columns, number as number_of, IsRising, Stands};
+ghost use Rattle.std.specs.Prelude.{◌≡◌, ◌<◌, ◌≤◌, ℕ, suc, get_or, length, IsTrue};
+ghost use Rattle.core_dict.specs.NextEntry.{IsNextEntry};
+ghost use Rattle.core_sparse.specs.Items.{columns, col_at, number as number_of};
+ghost use Rattle.core_sparse.specs.Items.{IsKept, IsRising, Stands};
 
 use crate::row::Item;
+use core_dict::RowEntry;
 use exact_frac::Exact;
 
 /// The column of the item at a place, or another where there is none.
@@ -56,4 +59,46 @@ pub fn number<E: Exact>(items: &Vec<Item<E>>, col: usize) -> E
 {
     let (value, _place) = take(items, place_of(items, col), col);
     value
+}
+
+// Whether the item before a place, if there is one, stands before a column.
+#[inline(always)]
+fn ends_before<E: Exact>(items: &[Item<E>], place: usize, col: usize) -> bool
+    requires { IsRising items.now }
+    ensures { IsTrue result → (k : ℕ) → k < place → k < length items.now
+        → col_at items.now k < col }
+{
+    place == 0 || column(items, place - 1, col) < col
+}
+
+// The place of the first item that does not stand before a column, where the search begins at a
+// place.
+#[inline(always)]
+fn place_from<E: Exact>(items: &[Item<E>], col: usize, place: usize) -> usize
+    requires { IsRising items.now }
+    ensures { Stands items.now col result }
+{
+    if ends_before(items, place, col) && col <= column(items, place, col) {
+        return place;
+    }
+    place_of(items, col)
+}
+
+/// The first item from a column on, or none, where the search begins at a place. The item behind
+/// an answer stands at its place.
+pub fn next_item<E: Exact>(items: &Vec<Item<E>>, from: usize, place: usize) -> Option<RowEntry<E>>
+    requires { IsRising items.now.items }
+    ensures { (n : ℕ) → IsKept E.value n items.now.items
+        → IsNextEntry E.value n (number_of E.value items.now.items) from result }
+{
+    let place = place_from(items, from, place);
+    if place >= items.len() {
+        return None;
+    }
+    let item = items[place];
+    Some(RowEntry {
+        col: item.col,
+        value: item.value,
+        place: place + 1,
+    })
 }

@@ -7,13 +7,13 @@ ghost use Rattle.core_sparse.specs.Steps.{AreKept};
 
 use crate::fault::Fault;
 use crate::fill::{costs, room, slots, variables};
-use crate::find::number;
+use crate::find::{next_item, number};
 use crate::own::own_row;
 use crate::row::{Item, Row, Slot};
 use crate::shift::{column_of, make_values, place_values};
 use crate::steps::{exchange_all, exchange_costs, make_costs, make_others};
 use crate::widen::{wide_items, wide_slots};
-use core_dict::{PivotFault, Programme, Shift, Store, Widen};
+use core_dict::{PivotFault, Programme, RowEntry, Shift, Store, Widen};
 use exact_frac::{Exact, Frac64, Frac128, Left};
 use std::alloc::{AllocError, Global};
 use std::mem;
@@ -140,6 +140,10 @@ impl<E: Exact> Store<E> for Sparse<E> {
 
     fn entry(&self, row: usize, col: usize) -> E {
         number(&self.slots[row].row.items, col)
+    }
+
+    fn next_entry(&self, row: usize, from: usize, place: usize) -> Option<RowEntry<E>> {
+        next_item(&self.slots[row].row.items, from, place)
     }
 
     fn cost(&self, col: usize) -> E {

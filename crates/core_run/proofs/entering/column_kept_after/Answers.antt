@@ -8,51 +8,51 @@ use Rattle.core_run.proofs.entering.column_kept_after.Goals as goal
 pub returns-then-not-is_negative-clause-kept : goal.returns-then-not-is_negative-clause-kept
 returns-then-not-is_negative-clause-kept g c =
     let d : Dictionary = g.D.Store.dictionary c.args.dict.now in
-    column_passed g.E.Exact.value d c.args.row c.args.col c.args.kept
-    (tested (g.E.Exact.value c.entry-entry.result) (d.entry c.args.row c.args.col) c.is_negative.result false
-    c.is_negative.ensures c.entry-entry.ensures c.if-not-is_negative.true)
+    column_passed g.E.Exact.value d c.args.row c.args.entry.col c.args.kept
+    (tested (g.E.Exact.value c.args.entry.value) (d.entry c.args.row c.args.entry.col) c.is_negative.result false
+    c.is_negative.ensures c.requires.entry c.if-not-is_negative.true)
     c.requires.kept
 
 pub over-requires : goal.over-requires
 over-requires g c =
-    minus_not_zero (g.E.Exact.value c.entry-entry.result) (g.E.Exact.value c.negated.result)
+    minus_not_zero (g.E.Exact.value c.args.entry.value) (g.E.Exact.value c.negated.result)
     c.is_negative.result c.is_negative.ensures c.if-not-is_negative.false c.negated.ensures
 
 pub returns-in_default-clause-kept : goal.returns-in_default-clause-kept
 returns-in_default-clause-kept g c =
     let d : Dictionary = g.D.Store.dictionary c.args.dict.now in
-    column_first g.E.Exact.value d c.args.row c.args.col c.args.kept
-    (record { col = c.args.col; var = c.nonbasic.result; ratio = c.in_ok-over.field-0 })
-    (tested (g.E.Exact.value c.entry-entry.result) (d.entry c.args.row c.args.col) c.is_negative.result true
-    c.is_negative.ensures c.entry-entry.ensures c.if-not-is_negative.false)
-    (column_is d c.args.row c.args.col c.nonbasic.result (g.E.Exact.value c.in_ok-over.field-0)
+    column_first g.E.Exact.value d c.args.row c.args.entry.col c.args.kept
+    (record { col = c.args.entry.col; var = c.nonbasic.result; ratio = c.in_ok-over.field-0 })
+    (tested (g.E.Exact.value c.args.entry.value) (d.entry c.args.row c.args.entry.col) c.is_negative.result true
+    c.is_negative.ensures c.requires.entry c.if-not-is_negative.false)
+    (column_is d c.args.row c.args.entry.col c.nonbasic.result (g.E.Exact.value c.in_ok-over.field-0)
     (g.E.Exact.value c.cost.result) (g.E.Exact.value c.negated.result)
-    (g.E.Exact.value c.entry-entry.result) c.nonbasic.ensures c.in_ok-over.ensures.exact c.cost.ensures
-    c.negated.ensures c.entry-entry.ensures)
+    (g.E.Exact.value c.args.entry.value) c.nonbasic.ensures c.in_ok-over.ensures.exact c.cost.ensures
+    c.negated.ensures c.requires.entry)
     c.requires.kept c.in_default.is
 
 pub returns-then-is_before-clause-kept : goal.returns-then-is_before-clause-kept
 returns-then-is_before-clause-kept g c =
     let d : Dictionary = g.D.Store.dictionary c.args.dict.now in
-    column_taken g.E.Exact.value d c.args.row c.args.col c.args.kept c.in-Some.held
-    (record { col = c.args.col; var = c.nonbasic.result; ratio = c.in_ok-over.field-0 })
-    (tested (g.E.Exact.value c.entry-entry.result) (d.entry c.args.row c.args.col) c.is_negative.result true
-    c.is_negative.ensures c.entry-entry.ensures c.if-not-is_negative.false)
-    (column_is d c.args.row c.args.col c.nonbasic.result (g.E.Exact.value c.in_ok-over.field-0)
+    column_taken g.E.Exact.value d c.args.row c.args.entry.col c.args.kept c.in-Some.held
+    (record { col = c.args.entry.col; var = c.nonbasic.result; ratio = c.in_ok-over.field-0 })
+    (tested (g.E.Exact.value c.args.entry.value) (d.entry c.args.row c.args.entry.col) c.is_negative.result true
+    c.is_negative.ensures c.requires.entry c.if-not-is_negative.false)
+    (column_is d c.args.row c.args.entry.col c.nonbasic.result (g.E.Exact.value c.in_ok-over.field-0)
     (g.E.Exact.value c.cost.result) (g.E.Exact.value c.negated.result)
-    (g.E.Exact.value c.entry-entry.result) c.nonbasic.ensures c.in_ok-over.ensures.exact c.cost.ensures
-    c.negated.ensures c.entry-entry.ensures)
+    (g.E.Exact.value c.args.entry.value) c.nonbasic.ensures c.in_ok-over.ensures.exact c.cost.ensures
+    c.negated.ensures c.requires.entry)
     c.requires.kept c.in-Some.is c.is_before.result c.is_before.ensures c.if-is_before.true
 
 pub returns-else-is_before-clause-kept : goal.returns-else-is_before-clause-kept
 returns-else-is_before-clause-kept g c =
     let d : Dictionary = g.D.Store.dictionary c.args.dict.now in
-    column_stays g.E.Exact.value d c.args.row c.args.col c.args.kept c.in-Some.held
-    (record { col = c.args.col; var = c.nonbasic.result; ratio = c.in_ok-over.field-0 })
-    (tested (g.E.Exact.value c.entry-entry.result) (d.entry c.args.row c.args.col) c.is_negative.result true
-    c.is_negative.ensures c.entry-entry.ensures c.if-not-is_negative.false)
-    (column_is d c.args.row c.args.col c.nonbasic.result (g.E.Exact.value c.in_ok-over.field-0)
+    column_stays g.E.Exact.value d c.args.row c.args.entry.col c.args.kept c.in-Some.held
+    (record { col = c.args.entry.col; var = c.nonbasic.result; ratio = c.in_ok-over.field-0 })
+    (tested (g.E.Exact.value c.args.entry.value) (d.entry c.args.row c.args.entry.col) c.is_negative.result true
+    c.is_negative.ensures c.requires.entry c.if-not-is_negative.false)
+    (column_is d c.args.row c.args.entry.col c.nonbasic.result (g.E.Exact.value c.in_ok-over.field-0)
     (g.E.Exact.value c.cost.result) (g.E.Exact.value c.negated.result)
-    (g.E.Exact.value c.entry-entry.result) c.nonbasic.ensures c.in_ok-over.ensures.exact c.cost.ensures
-    c.negated.ensures c.entry-entry.ensures)
+    (g.E.Exact.value c.args.entry.value) c.nonbasic.ensures c.in_ok-over.ensures.exact c.cost.ensures
+    c.negated.ensures c.requires.entry)
     c.requires.kept c.in-Some.is c.is_before.result c.is_before.ensures c.if-is_before.false

@@ -1,9 +1,15 @@
-use Rattle.std.proofs.Common.{ℕ, ◌<◌, unsigned_abs}
+use Rattle.std.proofs.Common.{ℕ, ◌-◌, ◌<◌, ◌≤◌, unsigned_abs}
 use Rattle.core_run.specs.Kept.{ColumnLeaves, HasKeptColumn}
 use Rattle.core_run.proofs.entering.entering_column.Given as goal
 
-abbrev pub invariant-loop-col : goal.invariant-loop-col
-invariant-loop-col g l =
+abbrev pub invariant-loop-from : goal.invariant-loop-from
+invariant-loop-from g l =
     let d = g.D.Store.dictionary l.dict in
-    HasKeptColumn g.E.Exact.value d l.row l.col l.kept
-    × ((j : ℕ) → j < l.col → ¬ (ColumnLeaves (unsigned_abs g.E.Exact.MOST) d l.row j))
+    record {
+      within : l.from ≤ l.cols;
+      kept : HasKeptColumn g.E.Exact.value d l.row l.from l.kept;
+      fits : (j : ℕ) → j < l.from → ¬ (ColumnLeaves (unsigned_abs g.E.Exact.MOST) d l.row j);
+    }
+
+abbrev pub decreases-loop-from : goal.decreases-loop-from
+decreases-loop-from g l = l.cols - l.from
