@@ -20,8 +20,8 @@ pub fn column<E: Exact>(items: &[Item<E>], place: usize, past: usize) -> usize
     }
 }
 
-// The place of the first item that does not stand before a column.
-fn place_of<E: Exact>(items: &[Item<E>], col: usize) -> usize
+/// The place of the first item that does not stand before a column.
+pub fn place_of<E: Exact>(items: &[Item<E>], col: usize) -> usize
     requires { IsRising items.now }
     ensures { Stands items.now col result }
 {
@@ -71,10 +71,10 @@ fn ends_before<E: Exact>(items: &[Item<E>], place: usize, col: usize) -> bool
     place == 0 || column(items, place - 1, col) < col
 }
 
-// The place of the first item that does not stand before a column, where the search begins at a
-// place.
+/// The place of the first item that does not stand before a column, where the search begins at a
+/// place.
 #[inline(always)]
-fn place_from<E: Exact>(items: &[Item<E>], col: usize, place: usize) -> usize
+pub fn place_from<E: Exact>(items: &[Item<E>], col: usize, place: usize) -> usize
     requires { IsRising items.now }
     ensures { Stands items.now col result }
 {

@@ -14,9 +14,11 @@ pub struct Row<E> {
     pub value: E,
 }
 
-/// A row, and room for what a pivot makes of it.
+/// A row, room for what a pivot makes of it, and the place at which the pivot's column was last
+/// found, where the next search begins.
 #[derive(Drop)]
 pub struct Slot<E> {
     pub row: Row<E>,
     pub spare: Row<E>,
+    pub place: usize,
 }

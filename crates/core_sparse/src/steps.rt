@@ -10,7 +10,7 @@ ghost use Rattle.core_sparse.specs.Steps.{entry_of, AreKept, AreAfter, IsAfter, 
 ghost use Rattle.core_sparse.specs.Steps.{IsMade, IsExchanged};
 
 use crate::fault::Fault;
-use crate::find::number;
+use crate::find::{number, place_from, place_of, take};
 use crate::merge::merge;
 use crate::numbers::{divided, is_zero, less_times};
 use crate::row::{Item, Row, Slot};
@@ -101,7 +101,9 @@ fn make<E: Exact>(
     ensures left { result ≡ Err Fault.Left
         → RowLeaves (unsigned_abs E.MOST) E.value cols (E.value pivot) col own.now slot.old.row }
 {
-    let q = number(&slot.row.items, col);
+    let place = place_of(&slot.row.items, col);
+    slot.place = place;
+    let (q, _next) = take(&slot.row.items, place, col);
     if is_zero(q) {
         return Ok(());
     }
@@ -175,7 +177,9 @@ fn exchange<E: Exact>(slot: &mut Slot<E>, col: usize)
     requires { IsRising slot.old.row.items.items }
     ensures { IsExchanged E.value col slot.old slot.new }
 {
-    if !is_zero(number(&slot.row.items, col)) {
+    let place = place_from(&slot.row.items, col, slot.place);
+    let (q, _next) = take(&slot.row.items, place, col);
+    if !is_zero(q) {
         mem::swap(&mut slot.row, &mut slot.spare);
     }
 }

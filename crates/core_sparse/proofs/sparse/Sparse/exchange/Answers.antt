@@ -14,7 +14,7 @@ exchange_all-requires g c =
     let s = c.args.self.now in
     let read = g.E.Exact.value in
     let x : Slot _ = c.index_mut.result.now in
-    let w : Slot _ = record { row = x.row; spare = c.swap.new.x } in
+    let w : Slot _ = record { row = x.row; spare = c.swap.new.x; place = x.place } in
     let row_in : c.args.row < length s.slots.items = subst (λ (n : ℕ). c.args.row < n) (sym s.rows) c.requires.row_in in
     subst (λ (zs : List _). (k : ℕ) (z : Slot _) → k < length zs → IsRising (get_or zs k z).row.items.items)
     (sym c.deref_mut.ensures.value)
@@ -25,7 +25,7 @@ invariant_of-self g c =
     let s = c.args.self.now in
     let read = g.E.Exact.value in
     let x : Slot _ = c.index_mut.result.now in
-    let w : Slot _ = record { row = x.row; spare = c.swap.new.x } in
+    let w : Slot _ = record { row = x.row; spare = c.swap.new.x; place = x.place } in
     let ys = c.exchange_all.new.slots in
     let at = c.index_mut.ensures.value in
     let set_long : length c.deref_mut.result.now ≡ length s.slots.items =
@@ -67,7 +67,7 @@ returns g c =
     let s = c.args.self.now in
     let read = g.E.Exact.value in
     let x : Slot _ = c.index_mut.result.now in
-    let w : Slot _ = record { row = x.row; spare = c.swap.new.x } in
+    let w : Slot _ = record { row = x.row; spare = c.swap.new.x; place = x.place } in
     let ys = c.exchange_all.new.slots in
     let at = c.index_mut.ensures.value in
     let set_long : length c.deref_mut.result.now ≡ length s.slots.items =
