@@ -1,5 +1,5 @@
 -- What is filed and counted once there is one more record.
-use Rattle.std.proofs.Common.{◌≡◌, ◌∙◌, refl, sym, ap, ℕ, ◌+◌, ◌≤◌, List, [], ◌∷◌, ◌++◌, length, filter, Bool, true, false, not, cond, Option, Some, None, is_some, option_map, Bor, arith, length-append}
+use Rattle.std.proofs.Common.{◌≡◌, ◌∙◌, refl, sym, ap, ℕ, ◌+◌, ◌≤◌, List, [], ◌∷◌, ◌++◌, length, filter, Bool, true, false, not, cond, Option, Some, None, is_some, option_map, arith, length-append}
 use Rattle.std.specs.Option.{unwrap_or, option_or}
 use Rattle.std.proofs.lemmas.List.Folds.{find-append}
 use Rattle.std.proofs.lemmas.List.Elements.{filter-append}
@@ -9,6 +9,7 @@ use Rattle.core_case.specs.Kinds.{is_kind}
 use Rattle.core_case.specs.Faults.{is_filed, is_in_group, filed, count_in}
 use Rattle.core_case.specs.declared.kinds.RecordKind.{RecordKind}
 use Rattle.core_case.specs.declared.register.Key.{Key}
+use Rattle.core_case.specs.declared.register.Filed.{Filed}
 use Rattle.core_case.specs.declared.register.Group.{Group}
 use Rattle.core_case.proofs.FiledKeys.{same_key, same_group, IsKeyOf, IsGroupOf, key-test, group-test, alike-keys, alike-groups}
 
@@ -59,35 +60,35 @@ or-some (Some x) p h = refl
 or-some None p h = cc
 
 -- what a map from keys files
-abbrev pub value_at : Option (Bor Record) → Option Record
-value_at o = option_map (λ r. r.now) o
+abbrev pub value_at : Option Filed → Option Record
+value_at o = option_map (λ f. f.fields.now) o
 
 -- a map that files the records files one more, once the record of a new key is put in
-pub filed-inserted : (kind : RecordKind) (r : Bor Record) (key : Key) (rs : List Record) → is_kind kind r.now ≡ true → IsKeyOf kind r.now key
-    → (old new : Key → Option (Bor Record)) → ((k : Key) → value_at (old k) ≡ filed_at k rs) → is_some (old key) ≡ false
-    → ((k : Key) → new k ≡ cond (same_key key k) (Some r) (old k)) → (k : Key) → value_at (new k) ≡ filed_at k (rs ++ (r.now ∷ []))
-filed-inserted kind r key rs h of old new files absent puts k = split (same_key key k) refl
+pub filed-inserted : (kind : RecordKind) (f : Filed) (key : Key) (rs : List Record) → is_kind kind f.fields.now ≡ true → IsKeyOf kind f.fields.now key
+    → (old new : Key → Option Filed) → ((k : Key) → value_at (old k) ≡ filed_at k rs) → is_some (old key) ≡ false
+    → ((k : Key) → new k ≡ cond (same_key key k) (Some f) (old k)) → (k : Key) → value_at (new k) ≡ filed_at k (rs ++ (f.fields.now ∷ []))
+filed-inserted kind f key rs h of old new files absent puts k = split (same_key key k) refl
   where
-    none : (o : Option (Bor Record)) → is_some o ≡ false → value_at o ≡ None
+    none : (o : Option Filed) → is_some o ≡ false → value_at o ≡ None
     none (Some x) e = cc
     none None e = refl
 
-    split : (b : Bool) → same_key key k ≡ b → value_at (new k) ≡ filed_at k (rs ++ (r.now ∷ []))
+    split : (b : Bool) → same_key key k ≡ b → value_at (new k) ≡ filed_at k (rs ++ (f.fields.now ∷ []))
     split true e =
-        let put : value_at (new k) ≡ Some r.now = ap value_at (puts k) ∙ ap (λ b. value_at (cond b (Some r) (old k))) e in
+        let put : value_at (new k) ≡ Some f.fields.now = ap value_at (puts k) ∙ ap (λ b. value_at (cond b (Some f) (old k))) e in
         let before : filed_at k rs ≡ None = filed-alike key k rs e ∙ sym (files key) ∙ none (old key) absent in
-        put ∙ sym (filed-push kind r.now key k rs h of ∙ ap (λ b. option_or (filed_at k rs) (cond b (Some r.now) None)) e ∙ ap (λ o. option_or o (Some r.now)) before)
+        put ∙ sym (filed-push kind f.fields.now key k rs h of ∙ ap (λ b. option_or (filed_at k rs) (cond b (Some f.fields.now) None)) e ∙ ap (λ o. option_or o (Some f.fields.now)) before)
     split false e =
-        let kept : value_at (new k) ≡ filed_at k rs = ap value_at (puts k) ∙ ap (λ b. value_at (cond b (Some r) (old k))) e ∙ files k in
-        kept ∙ sym (filed-push kind r.now key k rs h of ∙ ap (λ b. option_or (filed_at k rs) (cond b (Some r.now) None)) e ∙ or-none (filed_at k rs))
+        let kept : value_at (new k) ≡ filed_at k rs = ap value_at (puts k) ∙ ap (λ b. value_at (cond b (Some f) (old k))) e ∙ files k in
+        kept ∙ sym (filed-push kind f.fields.now key k rs h of ∙ ap (λ b. option_or (filed_at k rs) (cond b (Some f.fields.now) None)) e ∙ or-none (filed_at k rs))
 
 -- and the map as it is, where the key of the record is filed already
 pub filed-kept : (kind : RecordKind) (r : Record) (key : Key) (rs : List Record) → is_kind kind r ≡ true → IsKeyOf kind r key
-    → (old : Key → Option (Bor Record)) → ((k : Key) → value_at (old k) ≡ filed_at k rs) → is_some (old key) ≡ true
+    → (old : Key → Option Filed) → ((k : Key) → value_at (old k) ≡ filed_at k rs) → is_some (old key) ≡ true
     → (k : Key) → value_at (old k) ≡ filed_at k (rs ++ (r ∷ []))
 filed-kept kind r key rs h of old files present k = split (same_key key k) refl
   where
-    some : (o : Option (Bor Record)) → is_some o ≡ true → is_some (value_at o) ≡ true
+    some : (o : Option Filed) → is_some o ≡ true → is_some (value_at o) ≡ true
     some (Some x) e = refl
     some None e = cc
 

@@ -10,6 +10,7 @@ mod NamesSound
 mod ReadingCase
 mod ReadingFaults
 mod ReadingRows
+mod SoundPaths
 mod SoundRecord
 mod StateNames
 mod StateRows

@@ -1,6 +1,6 @@
 -- The first faulty record of a case, and its fault. A record is judged by the sound records before it, in the order
 -- of the steps below, and the first step that fails gives the fault.
-use Rattle.std.specs.Prelude.{ℕ, zero, suc, List, [], ◌∷◌, ◌++◌, length, map, filter, codes, ℤ, pos, negsuc, int_le, Bool, true, false, not, ◌&&◌, ◌||◌, nat_lt, if◌then◌else◌, Option, Some, None, is_some}
+use Rattle.std.specs.Prelude.{ℕ, zero, suc, ◌-◌, ◌^◌, List, [], ◌∷◌, ◌++◌, length, map, filter, codes, ℤ, pos, negsuc, int_le, Bool, true, false, not, ◌&&◌, ◌||◌, nat_lt, if◌then◌else◌, Option, Some, None, is_some}
 use Rattle.std.specs.Ordering.{int_eq}
 use Rattle.std.specs.Option.{option_or, unwrap_or}
 use Rattle.std.specs.List.{list_all, find}
@@ -110,6 +110,14 @@ range_fault InstrumentKind word = None
 range_fault (Number low high) word = fault_unless (is_between low high (whole word)) OutOfRange
 range_fault StartDate word = fault_unless (is_between first_date last_start (day_of word)) OutOfRange
 range_fault HolidayDate word = fault_unless (is_between first_date last_holiday (day_of word)) OutOfRange
+
+-- whether a word writes a price, which has neither of these faults
+abbrev pub is_price : List ℕ → Bool
+is_price word = is_some (whole word) && is_between (negsuc (10 ^ 12 - 1)) (pos (10 ^ 12)) (whole word)
+
+-- the fault of the fields of a record of a kind
+abbrev pub shape_fault : HeadingView → Record → RecordKind → Option RecordFault
+shape_fault h r kind = fields_fault FieldCount form_fault range_fault (forms h r kind) r
 
 -- and no position is 0
 abbrev pub zero_step : Record → RecordKind → Option RecordFault

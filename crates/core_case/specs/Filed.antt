@@ -12,5 +12,5 @@ abbrev pub records_in : Inside → List Record
 records_in a = map (λ r. r.fields.now) a.rows.items
 
 pub record Holds (same_key : Key → Key → Bool) (same_group : Group → Group → Bool) (a : Inside) (rs : List Record) : Type 0 where
-  pub filed_as : (k : Key) → option_map (λ r. r.now) (get same_key a.filed k) ≡ filed k.kind k.first.now k.second.now rs
+  pub filed_as : (k : Key) → option_map (λ f. f.fields.now) (get same_key a.filed k) ≡ filed k.kind k.first.now k.second.now rs
   pub counted : (g : Group) → unwrap_or (get same_group a.counts g) 0 ≡ count_in g.kind g.name.now rs

@@ -1,13 +1,14 @@
 // Fields of a record: words, and the numbers and days that they write.
-ghost use Rattle.std.specs.Prelude.{◌≡◌, ◌<◌, ◌^◌, Some};
+ghost use Rattle.std.specs.Prelude.{◌≡◌, ◌<◌, ◌^◌, IfOk, Some};
 ghost use Rattle.jiff.specs.Words.{epoch_day};
 ghost use Rattle.core_rows.specs.Fields.{whole, day_of};
 ghost use Rattle.core_case.specs.Kinds.{number_in, natural_in};
 ghost use Rattle.core_case.specs.Faults.{first_date, has_expiry, is_between, is_future, last_holiday, last_start};
-ghost use Rattle.core_case.specs.Stated.{day_in};
+ghost use Rattle.core_case.specs.Stated.{day_in, numbers_from};
 
 use core_rows::{Fields, day_text, same, whole};
 use jiff::civil::{Date, date};
+use std::alloc::{AllocError, Global};
 
 /// The number in a field, 0 where it writes none.
 pub(crate) fn number_in(row: &Fields, i: usize) -> i64
@@ -22,6 +23,21 @@ pub(crate) fn natural_in(row: &Fields, i: usize) -> usize
     ensures bound { result < 2 ^ 63 }
 {
     number_in(row, i).unsigned_abs() as usize
+}
+
+/// The numbers in the fields of a record from one on.
+pub(crate) fn numbers_from(
+    alloc: Global,
+    row: &Fields,
+    first: usize,
+) -> Result<Vec<i64>, AllocError>
+    ensures { IfOk result (λ v. v.items ≡ numbers_from first row.now) }
+{
+    let mut numbers = Vec::with_capacity(alloc, row.len().saturating_sub(first))?;
+    for i in first..row.len() {
+        numbers.push(number_in(row, i))?;
+    }
+    Ok(numbers)
 }
 
 /// Whether the record of an instrument is of a future.

@@ -7,6 +7,7 @@ mod forms;
 mod heading;
 mod kinds;
 mod laws;
+mod prices;
 mod read;
 mod register;
 mod shape;

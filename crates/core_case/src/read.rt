@@ -1,16 +1,18 @@
 // Reading a case.
-ghost use Rattle.std.specs.Prelude.{◌≡◌, ◌≤◌, ◌<◌, ◌^◌, true, None, Some, Ok, length, IfOk, IfErr};
+ghost use Rattle.std.specs.Prelude.{◌≡◌, ◌≤◌, ◌<◌, ◌^◌, true, None, Some, Ok, length, IsTrue, IfOk, IfErr};
 ghost use Rattle.core_rows.specs.Fields.{records};
 ghost use Rattle.core_book.specs.Kept.{IsCase};
 ghost use Rattle.core_case.specs.Codes.{code_of};
 ghost use Rattle.core_case.specs.Kinds.{is_kind, kind_of};
-ghost use Rattle.core_case.specs.Faults.{fault_of, first_fault, kind_step, missing_end};
+ghost use Rattle.core_case.specs.Faults.{fault_of, first_fault, heading_of, kind_step, missing_end, shape_fault};
 ghost use Rattle.core_case.specs.Refusals.{IsFault, RefusesBytes};
+ghost use Rattle.core_case.specs.declared.kinds.RecordKind.TheVariants.{Path};
 ghost use Rattle.core_case.specs.declared.read.CaseFault.TheVariants.{Bad};
 ghost use Rattle.core_case.specs.Stated.{case_of_bytes};
 
 use crate::faults::RecordFault;
 use crate::kinds::{RecordKind, is_kind, kind_of};
+use crate::prices::sound_prices;
 use crate::register::Register;
 use crate::shape::own_fault;
 use crate::state::state_book;
@@ -57,8 +59,10 @@ fn known_kind(place: usize, version: usize, row: &Fields) -> Result<RecordKind, 
     }
 }
 
-/// The kind of a record that is sound among those before it.
-fn sound_kind(register: &Register, row: &Fields) -> Result<RecordKind, RecordFault>
+/// The kind of a record that is sound among those before it. `priced` says that the fields of a path were found to be
+/// sound.
+fn sound_kind(register: &Register, row: &Fields, priced: bool) -> Result<RecordKind, RecordFault>
+    requires { IsTrue priced → shape_fault (heading_of register.now) row.now Path ≡ None }
     ensures sound { IfOk result (λ kind.
         (fault_of register.now row.now ≡ None) × (is_kind kind row.now ≡ true)) }
     ensures fault { IfErr result (λ fault. fault_of register.now row.now ≡ Some fault) }
@@ -69,7 +73,7 @@ fn sound_kind(register: &Register, row: &Fields) -> Result<RecordKind, RecordFau
     let place = register.len();
     let heading = register.heading();
     let kind = known_kind(place, heading.version, row)?;
-    if let Some(fault) = own_fault(place, heading, row, kind) {
+    if let Some(fault) = own_fault(place, heading, row, kind, priced) {
         return Err(fault);
     }
     match register.book_fault(row, kind) {
@@ -98,8 +102,9 @@ fn read_rows(alloc: Global, rows: &[Fields]) -> Result<Register<'_>, CaseFault>
 {
     let mut register = Register::make(alloc);
     for row in rows {
-        match sound_kind(&register, row) {
-            Ok(kind) => register = register.with(kind, row)?,
+        let prices = sound_prices(alloc, register.heading(), row)?;
+        match sound_kind(&register, row, prices.is_some()) {
+            Ok(kind) => register = register.with(kind, row, prices)?,
             Err(fault) => return Err(bad(register.len() + 1, fault)),
         }
     }

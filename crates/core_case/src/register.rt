@@ -1,10 +1,12 @@
 // The sound records that were read so far, filed by their keys.
-ghost use Rattle.std.specs.Prelude.{◌≡◌, true};
+ghost use Rattle.std.specs.Prelude.{◌≡◌, true, IfSome};
+ghost use Rattle.std.proofs.Props.{props};
 ghost use Rattle.core_case.specs.Kinds.{is_kind, most_records};
 ghost use Rattle.core_case.specs.Faults.{group_of, key_of};
+ghost use Rattle.core_case.specs.Stated.{numbers_from};
 
 use crate::faults::RecordFault;
-use crate::fields::{has_expiry, is_future, natural_in};
+use crate::fields::{has_expiry, is_future, natural_in, numbers_from};
 use crate::heading::Heading;
 use crate::kinds::RecordKind;
 use core_rows::{Fields, fault_unless, same};
@@ -48,11 +50,34 @@ impl<'a> Row<'a> {
     }
 }
 
+/// A record that is filed under its key, with its prices where it is a path and they were read when it was judged.
+#[derive(Drop)]
+pub(crate) struct Filed<'a> {
+    pub(crate) fields: &'a Fields,
+    pub(crate) prices: Option<Vec<i64>>,
+    ghost stated: { IfSome prices (λ v. v.items ≡ numbers_from 3 fields.now) } by { Prim.hlevel props },
+}
+
+impl<'a> Filed<'a> {
+    ghost use Rattle.std.specs.Prelude.{◌≡◌, IfOk};
+    ghost use Rattle.core_case.specs.Stated.{numbers_from};
+
+    /// The prices that the record states where it is a path.
+    pub(crate) fn prices(&self, alloc: Global) -> Result<Vec<i64>, AllocError>
+        ensures { IfOk result (λ v. v.items ≡ numbers_from 3 self.now.fields.now) }
+    {
+        match &self.prices {
+            Some(prices) => Vec::from_slice(alloc, prices),
+            None => numbers_from(alloc, self.fields, 3),
+        }
+    }
+}
+
 /// The sound records that were read so far. Contracts see the list of these records.
 #[derive(Drop)]
 pub(crate) struct Register<'a> {
     pub(crate) rows: Vec<Row<'a>>,
-    pub(crate) filed: IndexMap<Key<'a>, &'a Fields>,
+    pub(crate) filed: IndexMap<Key<'a>, Filed<'a>>,
     pub(crate) counts: IndexMap<Group<'a>, usize>,
 }
 
@@ -106,8 +131,9 @@ fn group_of<'a>(kind: RecordKind, row: &'a Fields) -> Group<'a>
 }
 
 impl<'a> Register<'a> {
-    ghost use Rattle.std.specs.Prelude.{◌≡◌, [], ◌∷◌, ◌++◌, true, nat_lt, length, map, option_map, is_some, IfOk};
+    ghost use Rattle.std.specs.Prelude.{◌≡◌, [], ◌∷◌, ◌++◌, true, nat_lt, length, map, option_map, is_some, IfOk, IfSome};
     ghost use Rattle.std.specs.List.{list_all};
+    ghost use Rattle.core_case.specs.Stated.{numbers_from};
     ghost use Rattle.core_case.specs.Kinds.{heading_view, is_kind, natural_in, references};
     ghost use Rattle.core_case.specs.Faults.{filed, count_in, group_of, has_ended, is_declared, name_step, names_future, security_step, repeats, has_room, of_kind, has_limit, has_path, is_complete, book_fault, heading_of};
     ghost use Rattle.core_rows.specs.Steps.{first_of};
@@ -126,9 +152,15 @@ impl<'a> Register<'a> {
         }
     }
 
-    /// The records with one more of this kind.
-    pub(crate) fn with(self, kind: RecordKind, row: &'a Fields) -> Result<Register<'a>, AllocError>
-        requires { is_kind kind row.now ≡ true }
+    /// The records with one more of this kind, whose prices may have been read.
+    pub(crate) fn with(
+        self,
+        kind: RecordKind,
+        row: &'a Fields,
+        prices: Option<Vec<i64>>,
+    ) -> Result<Register<'a>, AllocError>
+        requires of_kind { is_kind kind row.now ≡ true }
+        requires stated { IfSome prices (λ v. v.items ≡ numbers_from 3 row.now) }
         ensures { IfOk result (λ register. register ≡ self.entry ++ (row.now ∷ [])) }
     {
         let Register {
@@ -139,7 +171,13 @@ impl<'a> Register<'a> {
         rows.push(Row { kind, fields: row })?;
         let key = key_of(kind, row);
         if !filed.contains_key(&key) {
-            filed.insert(key, row)?;
+            filed.insert(
+                key,
+                Filed {
+                    fields: row,
+                    prices,
+                },
+            )?;
         }
         let group = group_of(kind, row);
         let count = counts.get(&group).copied().unwrap_or(0);
@@ -195,17 +233,28 @@ impl<'a> Register<'a> {
         self.rows[1].fields
     }
 
+    /// The first record of a kind with this key, as it is filed.
+    pub(crate) fn filed_at<'s>(
+        &'s self,
+        kind: RecordKind,
+        first: &'s [u8],
+        second: &'s [u8],
+    ) -> Option<&'s Filed<'a>>
+        ensures { option_map (λ f. f.now.fields.now) result
+            ≡ filed kind first.now second.now self.now }
+    {
+        self.filed.get(&Key {
+            kind,
+            first,
+            second,
+        })
+    }
+
     /// The first record of a kind with this key.
     pub(crate) fn find(&self, kind: RecordKind, first: &[u8], second: &[u8]) -> Option<&'a Fields>
         ensures { option_map (λ r. r.now) result ≡ filed kind first.now second.now self.now }
     {
-        self.filed
-            .get(&Key {
-                kind,
-                first,
-                second,
-            })
-            .copied()
+        Some(self.filed_at(kind, first, second)?.fields)
     }
 
     /// Whether there is a record of a kind with this key.

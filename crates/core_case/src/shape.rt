@@ -1,7 +1,8 @@
 // The faults of a record by itself.
-ghost use Rattle.std.specs.Prelude.{◌≡◌, Some, None, IfOk, IfErr};
+ghost use Rattle.std.specs.Prelude.{◌≡◌, Some, None, IsTrue, IfOk, IfErr};
 ghost use Rattle.core_case.specs.Kinds.{forms, heading_view};
-ghost use Rattle.core_case.specs.Faults.{form_fault, order_step, own_fault, range_fault, zero_step};
+ghost use Rattle.core_case.specs.Faults.{form_fault, order_step, own_fault, range_fault, shape_fault, zero_step};
+ghost use Rattle.core_case.specs.declared.kinds.RecordKind.TheVariants.{Path};
 
 use crate::faults::RecordFault;
 use crate::fields::number_in;
@@ -69,20 +70,41 @@ fn zero_fault(row: &Fields, kind: RecordKind) -> Option<RecordFault>
     )
 }
 
-/// The fault of a record of this kind by itself, where so many records came before.
+/// The fault of the fields of a record of this kind. `priced` says that those of a path were found to be sound.
+fn shape_fault(
+    heading: Heading,
+    row: &Fields,
+    kind: RecordKind,
+    priced: bool,
+) -> Option<RecordFault>
+    requires { IsTrue priced → shape_fault (heading_view heading) row.now Path ≡ None }
+    ensures { result ≡ shape_fault (heading_view heading) row.now kind }
+{
+    match kind {
+        RecordKind::Path if priced => None,
+        _ => {
+            let shape = RecordShape { heading, row, kind };
+            fields_fault(&shape, row, RecordFault::FieldCount)
+        }
+    }
+}
+
+/// The fault of a record of this kind by itself, where so many records came before. `priced` says that the fields of a
+/// path were found to be sound.
 pub(crate) fn own_fault(
     place: usize,
     heading: Heading,
     row: &Fields,
     kind: RecordKind,
+    priced: bool,
 ) -> Option<RecordFault>
+    requires { IsTrue priced → shape_fault (heading_view heading) row.now Path ≡ None }
     ensures { result ≡ own_fault place (forms (heading_view heading) row.now kind) row.now kind }
 {
     if let Some(fault) = order_fault(place, kind) {
         return Some(fault);
     }
-    let shape = RecordShape { heading, row, kind };
-    if let Some(fault) = fields_fault(&shape, row, RecordFault::FieldCount) {
+    if let Some(fault) = shape_fault(heading, row, kind, priced) {
         return Some(fault);
     }
     zero_fault(row, kind)

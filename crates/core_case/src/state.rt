@@ -11,7 +11,7 @@ ghost use Rattle.core_case.specs.Faults.{heading_of, house_name, of_kind};
 ghost use Rattle.core_case.specs.Stated.{case_of, cash_among, declared_names, depth_among, first_tier, holidays_among, instrument_of_record, limits_of, line_among, line_records, market_names, member_among, names_in, numbers_from, pool_of_record, prices_of, tier_of_record};
 ghost use Rattle.core_case.specs.Whole.{IsWhole};
 
-use crate::fields::{day_in, is_future, natural_in, number_in};
+use crate::fields::{day_in, is_future, natural_in, number_in, numbers_from};
 use crate::kinds::{RecordKind, is_kind};
 use crate::register::{Register, Row};
 use core_book::{Book, Instr, Kind, Line, Member, Pool, Side, Tier};
@@ -94,17 +94,6 @@ fn place_of(names: &NameNumbers, name: &[u8]) -> usize
     }
 }
 
-/// The numbers in the fields of a record from one on.
-fn numbers_from(alloc: Global, row: &Fields, first: usize) -> Result<Vec<i64>, AllocError>
-    ensures { IfOk result (λ v. v.items ≡ numbers_from first row.now) }
-{
-    let mut numbers = Vec::with_capacity(alloc, row.len().saturating_sub(first))?;
-    for i in first..row.len() {
-        numbers.push(number_in(row, i))?;
-    }
-    Ok(numbers)
-}
-
 /// The limits that the limit record of an instrument states, none where there is none.
 fn limits_of(
     alloc: Global,
@@ -170,8 +159,8 @@ fn prices_of(
     ensures { IfOk result (λ v.
         v.items ≡ prices_of register.now (field scenario.now 1) (field instrument.now 1)) }
 {
-    match register.find(RecordKind::Path, scenario.word(1), instrument.word(1)) {
-        Some(row) => numbers_from(alloc, row, 3),
+    match register.filed_at(RecordKind::Path, scenario.word(1), instrument.word(1)) {
+        Some(path) => path.prices(alloc),
         None => Ok(Vec::new(alloc)),
     }
 }

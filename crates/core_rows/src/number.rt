@@ -1,7 +1,7 @@
 // The whole numbers that fields write.
-ghost use Rattle.std.specs.Prelude.{◌≡◌, ◌≤◌, ◌<◌, ◌+◌, ◌*◌, ◌^◌, nat_le, if◌then◌else◌, Some, None, IfSome, length, unsigned_abs};
+ghost use Rattle.std.specs.Prelude.{◌≡◌, ◌≤◌, ◌+◌, ◌-◌, ◌*◌, ◌^◌, if◌then◌else◌, Some, None, IfSome, length};
 ghost use Rattle.std.specs.List.{list_all};
-ghost use Rattle.core_rows.specs.Fields.{all_digits, at_most, digits_value, is_digit, number_of, positive, whole, wide};
+ghost use Rattle.core_rows.specs.Fields.{all_digits, at_most, digits_value, is_digit, positive, whole, wide};
 
 /// The number that a field of at most 19 digits writes. It fits 64 bits, so no digit is tested against the width.
 fn short_digits(field: &[u8]) -> Option<u64>
@@ -68,21 +68,24 @@ fn positive(field: &[u8], greatest: u128) -> Option<u128>
     }
 }
 
-/// The number that a field writes, where its absolute value is at most the greatest.
-fn number_of(field: &[u8], greatest: u128) -> Option<i128>
-    requires { greatest < 2 ^ 127 }
-    ensures value { result ≡ number_of greatest field.now }
-    ensures bound { IfSome result (λ z. unsigned_abs z ≤ greatest) }
+/// The number that digits write, the first of which is not 0, where it is at most 2^63 - 1. A number of more than 19
+/// digits is above that.
+fn short_positive(field: &[u8]) -> Option<u64>
+    ensures value { result ≡ at_most (2 ^ 63 - 1) (positive field.now) }
+    ensures bound { IfSome result (λ n. n ≤ 2 ^ 63 - 1) }
 {
+    if field.len() > 19 {
+        return None;
+    }
     match field {
-        [b'-', digits @ ..] => {
-            let n = positive(digits, greatest)?;
-            Some(-(n as i128))
-        }
-        [b'0'] => Some(0),
+        [] | [b'0', ..] => None,
         _ => {
-            let n = positive(field, greatest)?;
-            Some(n as i128)
+            let value = short_digits(field)?;
+            if value <= i64::MAX as u64 {
+                Some(value)
+            } else {
+                None
+            }
         }
     }
 }
@@ -92,13 +95,32 @@ fn number_of(field: &[u8], greatest: u128) -> Option<i128>
 pub fn whole(field: &[u8]) -> Option<i64>
     ensures { result ≡ whole field.now }
 {
-    let n = number_of(field, i64::MAX as u128)?;
-    Some(n as i64)
+    match field {
+        [b'-', digits @ ..] => {
+            let n = short_positive(digits)?;
+            Some(-(n as i64))
+        }
+        [b'0'] => Some(0),
+        _ => {
+            let n = short_positive(field)?;
+            Some(n as i64)
+        }
+    }
 }
 
 /// The number that a field writes, as `whole`, with an absolute value of at most 2^127 - 1.
 pub fn wide(field: &[u8]) -> Option<i128>
     ensures { result ≡ wide field.now }
 {
-    number_of(field, i128::MAX as u128)
+    match field {
+        [b'-', digits @ ..] => {
+            let n = positive(digits, i128::MAX as u128)?;
+            Some(-(n as i128))
+        }
+        [b'0'] => Some(0),
+        _ => {
+            let n = positive(field, i128::MAX as u128)?;
+            Some(n as i128)
+        }
+    }
 }

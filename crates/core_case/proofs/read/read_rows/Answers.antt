@@ -1,10 +1,18 @@
-use Rattle.std.proofs.Common.{◌<◌, ◌≤◌, sym, ap, length, arith}
-use Rattle.core_case.specs.Faults.{first_fault_after}
+use Rattle.std.proofs.Common.{◌≡◌, ◌<◌, ◌≤◌, sym, ap, subst, length, None, arith}
+use Rattle.core_case.specs.Kinds.{HeadingView}
+use Rattle.core_case.specs.Faults.{first_fault_after, shape_fault}
+use Rattle.core_case.specs.declared.kinds.RecordKind.TheVariants.{Path}
+use Rattle.core_case.proofs.SoundPaths.{found-so}
 use Rattle.core_case.proofs.ReadingRows.{row-faulty, row-sound, rows-more, rows-count, rows-all, rows-end, bad-is}
 use Rattle.core_case.proofs.read.read_rows.Goals as goal
 
 pub loop-row-init : goal.loop-row-init
 loop-row-init c = (c.make-register.ensures, ap (λ rs. first_fault_after rs c.args.rows.now) (sym c.make-register.ensures))
+
+pub sound_kind-requires : goal.sound_kind-requires
+sound_kind-requires c = λ priced.
+    subst (λ (h : HeadingView). shape_fault h c.row-item.result Path ≡ None) c.heading.ensures
+    (found-so c.in_ok-prices.prices c.in_ok-prices.ensures.sound (cc))
 
 pub bad-requires : goal.bad-requires
 bad-requires c =

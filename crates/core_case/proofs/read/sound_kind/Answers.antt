@@ -1,12 +1,16 @@
-use Rattle.std.proofs.Common.{◌≡◌, Some, None}
-use Rattle.core_case.specs.Kinds.{heading_view}
-use Rattle.core_case.specs.Faults.{fault_of}
+use Rattle.std.proofs.Common.{◌≡◌, sym, subst, Some, None}
+use Rattle.core_case.specs.Kinds.{HeadingView, heading_view}
+use Rattle.core_case.specs.Faults.{fault_of, shape_fault}
+use Rattle.core_case.specs.declared.kinds.RecordKind.TheVariants.{Path}
 use Rattle.core_rows.proofs.OneByOne.{error-same}
 use Rattle.core_case.proofs.ReadingFaults.{ended-fault, kind-fault, known-kind, own-found, book-found, kind-is}
 use Rattle.core_case.proofs.read.sound_kind.Goals as goal
 
 pub returns-then-has_ended-clause-fault : goal.returns-then-has_ended-clause-fault
 returns-then-has_ended-clause-fault c = ended-fault c.args.register.now c.args.row.now c.if-has_ended.ensures
+
+pub own_fault-requires : goal.own_fault-requires
+own_fault-requires c = λ priced. subst (λ (h : HeadingView). shape_fault h c.args.row.now Path ≡ None) (sym c.heading-heading.ensures) (c.requires priced)
 
 pub returns-in_err-kind-clause-fault : goal.returns-in_err-kind-clause-fault
 returns-in_err-kind-clause-fault c =

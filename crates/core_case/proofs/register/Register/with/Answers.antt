@@ -37,17 +37,17 @@ invariant_of-result c =
     elim c.if-not-contains_key.branch [
       | then-not-contains_key+in_ok-insert w ↦
           λ k. ap (λ m. value_at (get same_key m k)) w.filed-is
-          ∙ filed-inserted c.args.kind c.args.row c.key_of-key.result rs c.requires keyed (get same_key c.self.inside.filed) (get same_key w.insert.new.self)
+          ∙ filed-inserted c.args.kind _ c.key_of-key.result rs c.requires.of_kind keyed (get same_key c.self.inside.filed) (get same_key w.insert.new.self)
           c.self.invariant.filed_as (sym c.contains_key.ensures ∙ w.if-not-contains_key.true) w.in_ok-insert.ensures.updates.0 k
       | else-not-contains_key w ↦
           λ k. ap (λ m. value_at (get same_key m k)) w.filed-is
-          ∙ filed-kept c.args.kind c.args.row.now c.key_of-key.result rs c.requires keyed (get same_key c.self.inside.filed)
+          ∙ filed-kept c.args.kind c.args.row.now c.key_of-key.result rs c.requires.of_kind keyed (get same_key c.self.inside.filed)
           c.self.invariant.filed_as (sym c.contains_key.ensures ∙ w.if-not-contains_key.false) k
     ] in
     let count : c.unwrap_or-count.result ≡ unwrap_or (get same_group c.self.inside.counts c.group_of-group.result) 0 =
     c.unwrap_or-count.ensures ∙ ap (λ o. unwrap_or o 0) (c.copied.ensures ∙ c.get.ensures.value) in
     let counts : (g : Group) → unwrap_or (get same_group c.insert-2.new.self g) 0 ≡ counted_in g (rs ++ (c.args.row.now ∷ [])) =
-    counted-raised c.args.kind c.args.row.now c.group_of-group.result rs c.requires grouped (get same_group c.self.inside.counts) (get same_group c.insert-2.new.self)
+    counted-raised c.args.kind c.args.row.now c.group_of-group.result rs c.requires.of_kind grouped (get same_group c.self.inside.counts) (get same_group c.insert-2.new.self)
     c.unwrap_or-count.result c.self.invariant.counted count c.in_ok-insert-2.ensures.updates.0 in
     subst
     (Holds same_key same_group record { rows = c.push.new.self; filed = c.if-not-contains_key.filed; counts = c.insert-2.new.self })
