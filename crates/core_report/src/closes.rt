@@ -18,19 +18,18 @@ use std::alloc::{AllocError, Global};
 /// A record of a closing that begins with its day, its line and its tier.
 fn close_start(
     alloc: Global,
-    case: &Case,
-    dates: &Dates,
+    accepted: &AcceptedCalendar,
     cell: ClosingCell,
 ) -> Result<Row, AllocError>
-    requires dates { AreDates case.now dates.now }
-    requires line { cell.row < line_count case.now }
-    requires day { IsClosingDay case.now cell.day }
+    requires line { cell.row < line_count accepted.now.calendar.case }
+    requires day { IsClosingDay accepted.now.calendar.case cell.day }
     ensures { IfOk result (λ row. row
-        ≡ close_fields case.now dates.now cell.day cell.row cell.tier) }
+        ≡ close_fields accepted.now.calendar.case accepted.now.dates.now
+        cell.day cell.row cell.tier) }
 {
-    let _kept = case.horizon();
+    let case = accepted.case();
     let mut row = Row::start(alloc, b"close")?;
-    row.push_date(dates, cell.day)?;
+    row.push_date(accepted.dates, cell.day)?;
     row.push_line(case, cell.row)?;
     row.push_tier(case, cell.tier)?;
     Ok(row)
@@ -54,7 +53,9 @@ fn close_row(
     if amount == 0 {
         return Ok(None);
     }
-    let mut row = close_start(alloc, accepted.case(), accepted.dates, cell)?;
+    // A calendar fits the case that it is with.
+    let _fits = accepted.case();
+    let mut row = close_start(alloc, accepted, cell)?;
     row.push_ratio(amount, accepted.den())?;
     Ok(Some(row))
 }

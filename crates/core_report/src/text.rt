@@ -134,15 +134,7 @@ fn closes_text(
     put_closes(alloc, &mut out, accepted)?;
     put_limits(alloc, &mut out, accepted)?;
     put_pools(alloc, &mut out, accepted)?;
-    let case = accepted.case();
-    put_ledger(
-        alloc,
-        &mut out,
-        case,
-        accepted.dates,
-        ledger,
-        worst.scenario,
-    )?;
+    put_ledger(alloc, &mut out, accepted, ledger, worst.scenario)?;
     put_top(alloc, &mut out, accepted, top)?;
     put_end(alloc, &mut out)?;
     Ok(out)

@@ -13,11 +13,9 @@ ghost use Rattle.core_replay.specs.Ledger.{NoneLeaves};
 ghost use Rattle.core_report.specs.declared.fault.ReportFault.TheVariants.{NoMemory};
 ghost use Rattle.core_report.specs.Ranking.{loss_on, losses, losses_by_day};
 ghost use Rattle.core_report.specs.Records.{loss_at, top_record, top_records};
-ghost use Rattle.core_report.specs.Report.{AreDates};
 ghost use Rattle.core_report.specs.Stays.{IsPlaced};
 
 use crate::accepted::AcceptedCalendar;
-use crate::dates::Dates;
 use crate::fault::ReportFault;
 use crate::numbers::number;
 use crate::row::{Row, put};
@@ -125,22 +123,20 @@ pub(crate) fn greatest(alloc: Global, losses: Vec<Loss>) -> Result<Vec<Loss>, Al
 /// A loss of a rank from 1.
 fn top_row(
     alloc: Global,
-    case: &Case,
-    dates: &Dates,
-    den: i128,
+    accepted: &AcceptedCalendar,
     rank: usize,
     loss: Loss,
 ) -> Result<Row, AllocError>
-    requires dates { AreDates case.now dates.now }
-    requires den { pos 1 ≤ℤ den }
-    requires loss { IsPlaced case.now loss }
-    ensures { IfOk result (λ row. row ≡ top_record case.now dates.now den rank loss) }
+    requires { IsPlaced accepted.now.calendar.case loss }
+    ensures { IfOk result (λ row. row
+        ≡ top_record accepted.now.calendar.case accepted.now.dates.now
+        accepted.now.calendar.calendar.den rank loss) }
 {
     let mut row = Row::start(alloc, b"top")?;
     row.push_number(rank as i128)?;
-    row.push_name(case.scenario(loss.scenario))?;
-    row.push_date(dates, loss.day)?;
-    row.push_ratio(loss.loss, den)?;
+    row.push_name(accepted.case().scenario(loss.scenario))?;
+    row.push_date(accepted.dates, loss.day)?;
+    row.push_ratio(loss.loss, accepted.den())?;
     Ok(row)
 }
 
@@ -158,10 +154,8 @@ pub(crate) fn put_top(
         ++ rows_text (top_records accepted.now.calendar.case accepted.now.dates.now
         accepted.now.calendar.calendar.den top.now)) }
 {
-    let case = accepted.case();
-    let den = accepted.den();
     for n in 0..top.len() {
-        let row = top_row(alloc, case, accepted.dates, den, n + 1, top[n])?;
+        let row = top_row(alloc, accepted, n + 1, top[n])?;
         put(alloc, out, &row)?;
     }
     Ok(())

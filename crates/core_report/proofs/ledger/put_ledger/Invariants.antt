@@ -7,4 +7,4 @@ use Rattle.core_report.proofs.ledger.put_ledger.Given as goal
 abbrev pub invariant-loop-t : goal.invariant-loop-t
 invariant-loop-t l =
     Prints l.fn.out.items
-    (each (below l.t) (λ t. ledger_record l.case l.dates l.scenario (at l.ledger.paid) (at l.ledger.total) l.ledger.den t ∷ [])) l.out.items
+    (each (below l.t) (λ t. ledger_record l.accepted.calendar.case l.accepted.dates.now l.scenario (at l.ledger.paid) (at l.ledger.total) l.ledger.den t ∷ [])) l.out.items

@@ -26,8 +26,7 @@ put_loss-requires-clause-loss c =
 
 pub put_ledger-requires-clause-kept : goal.put_ledger-requires-clause-kept
 put_ledger-requires-clause-kept c =
-    rw c.case-case.ensures.value
-    (ledger-kept c.args.accepted.now.calendar.case (planned c.args.accepted.now.calendar) c.args.worst.scenario c.args.ledger.now c.args.accepted.now.stays.den c.requires.ledger)
+    ledger-kept c.args.accepted.now.calendar.case (planned c.args.accepted.now.calendar) c.args.worst.scenario c.args.ledger.now c.args.accepted.now.stays.den c.requires.ledger
 
 pub put_top-requires-clause-placed : goal.put_top-requires-clause-placed
 put_top-requires-clause-placed c =
