@@ -1,17 +1,17 @@
 -- What is filed and counted once there is one more record.
-use Rattle.std.proofs.Common.{◌≡◌, ◌∙◌, refl, sym, ap, ℕ, ◌+◌, ◌≤◌, List, [], ◌∷◌, ◌++◌, length, filter, Bool, true, false, not, cond, Option, Some, None, is_some, option_map, arith, length-append}
+use Rattle.std.proofs.Common.{◌≡◌, ◌∙◌, refl, sym, ap, ℕ, ◌+◌, ◌≤◌, List, [], ◌∷◌, ◌++◌, length, filter, Bool, true, false, not, cond, Option, Some, None, is_some, option_map, arith, length-append, true≢false}
 use Rattle.std.specs.Option.{unwrap_or, option_or}
 use Rattle.std.proofs.lemmas.List.Folds.{find-append}
 use Rattle.std.proofs.lemmas.List.Elements.{filter-append}
 use Rattle.std.proofs.lemmas.List.Filters.{length-filter_both}
 use Rattle.core_rows.specs.Names.{Record}
-use Rattle.core_case.specs.Kinds.{is_kind}
+use Rattle.core_case.specs.Kinds.{is_kind, most_records}
 use Rattle.core_case.specs.Faults.{is_filed, is_in_group, filed, count_in}
 use Rattle.core_case.specs.declared.kinds.RecordKind.{RecordKind}
 use Rattle.core_case.specs.declared.register.Key.{Key}
 use Rattle.core_case.specs.declared.register.Filed.{Filed}
 use Rattle.core_case.specs.declared.register.Group.{Group}
-use Rattle.core_case.proofs.FiledKeys.{same_key, same_group, IsKeyOf, IsGroupOf, key-test, group-test, alike-keys, alike-groups}
+use Rattle.core_case.proofs.FiledKeys.{same_key, same_group, IsKeyOf, IsGroupOf, key-test, group-test, one-kind, alike-keys, alike-groups}
 
 -- what the records file under a key
 abbrev pub filed_at : Key → List Record → Option Record
@@ -99,11 +99,15 @@ filed-kept kind r key rs h of old files present k = split (same_key key k) refl
     split false e =
         files k ∙ sym (filed-push kind r key k rs h of ∙ ap (λ b. option_or (filed_at k rs) (cond b (Some r) None)) e ∙ or-none (filed_at k rs))
 
+-- what is counted of a map from groups
+abbrev pub IsCounted : (Group → Option ℕ) → List Record → Type 0
+IsCounted counts rs = (g : Group) → is_some (most_records g.kind) ≡ true → unwrap_or (counts g) 0 ≡ counted_in g rs
+
 -- a map that counts the records counts one more, once the count of its group is raised
 pub counted-raised : (kind : RecordKind) (r : Record) (group : Group) (rs : List Record) → is_kind kind r ≡ true → IsGroupOf kind r group
-    → (old new : Group → Option ℕ) (n : ℕ) → ((g : Group) → unwrap_or (old g) 0 ≡ counted_in g rs) → n ≡ unwrap_or (old group) 0
-    → ((g : Group) → new g ≡ cond (same_group group g) (Some (n + 1)) (old g)) → (g : Group) → unwrap_or (new g) 0 ≡ counted_in g (rs ++ (r ∷ []))
-counted-raised kind r group rs h of old new n counts is puts g = split (same_group group g) refl
+    → (old new : Group → Option ℕ) (n : ℕ) → is_some (most_records group.kind) ≡ true → IsCounted old rs → n ≡ unwrap_or (old group) 0
+    → ((g : Group) → new g ≡ cond (same_group group g) (Some (n + 1)) (old g)) → IsCounted new (rs ++ (r ∷ []))
+counted-raised kind r group rs h of old new n counted counts is puts g limited = split (same_group group g) refl
   where
     put : (b : Bool) → same_group group g ≡ b → unwrap_or (new g) 0 ≡ unwrap_or (cond b (Some (n + 1)) (old g)) 0
     put b e = ap (λ o. unwrap_or o 0) (puts g) ∙ ap (λ x. unwrap_or (cond x (Some (n + 1)) (old g)) 0) e
@@ -113,9 +117,30 @@ counted-raised kind r group rs h of old new n counts is puts g = split (same_gro
 
     split : (b : Bool) → same_group group g ≡ b → unwrap_or (new g) 0 ≡ counted_in g (rs ++ (r ∷ []))
     split true e =
-        let before : n ≡ counted_in g rs = is ∙ counts group ∙ sym (count-alike group g rs e) in
+        let before : n ≡ counted_in g rs = is ∙ counts group counted ∙ sym (count-alike group g rs e) in
         put true e ∙ ap (λ x. x + 1) before ∙ sym (pushed true e)
-    split false e = let more = pushed false e in let same = put false e in let was = counts g in omega (arith, more, same, was)
+    split false e = let more = pushed false e in let same = put false e in let was = counts g limited in omega (arith, more, same, was)
+
+-- and the map as it is, where the kind of the record is not counted
+pub counted-kept : (kind : RecordKind) (r : Record) (rs : List Record) → is_kind kind r ≡ true → is_some (most_records kind) ≡ false
+    → (old : Group → Option ℕ) → IsCounted old rs → IsCounted old (rs ++ (r ∷ []))
+counted-kept kind r rs h unlimited old counts g limited = counts g limited ∙ sym (kept (is_kind g.kind r) refl)
+  where
+    test : Record → Bool
+    test = is_in_group g.kind g.name.now
+
+    alone : (b : Bool) → is_kind g.kind r ≡ b → length (cond (test r) (r ∷ []) []) ≡ 0
+    alone true e =
+        let same : g.kind ≡ kind = one-kind g.kind kind r e h in
+        let other : is_some (most_records g.kind) ≡ false = ap (λ k. is_some (most_records k)) same ∙ unlimited in
+        absurd (true≢false (sym limited ∙ other))
+    alone false e = rw e refl
+
+    kept : (b : Bool) → is_kind g.kind r ≡ b → counted_in g (rs ++ (r ∷ [])) ≡ counted_in g rs
+    kept b e =
+        let grown = ap length (filter-append test rs (r ∷ [])) ∙ length-append (filter test rs) (cond (test r) (r ∷ []) []) in
+        let none = alone b e in
+        omega (arith, grown, none)
 
 -- there are no more in a group than records
 pub counted-most : (g : Group) (rs : List Record) → counted_in g rs ≤ length rs

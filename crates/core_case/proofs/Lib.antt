@@ -1,3 +1,4 @@
+mod FiledHeading
 mod FiledKeys
 mod FiledMore
 mod FiledRows

@@ -1,8 +1,10 @@
 // The sound records that were read so far, filed by their keys.
-ghost use Rattle.std.specs.Prelude.{◌≡◌, true, IfSome};
+ghost use Rattle.std.specs.Prelude.{◌≡◌, ◌<◌, ◌^◌, ◌||◌, true, map, IfSome};
 ghost use Rattle.std.proofs.Props.{props};
-ghost use Rattle.core_case.specs.Kinds.{is_kind, most_records};
-ghost use Rattle.core_case.specs.Faults.{group_of, key_of};
+ghost use Rattle.core_sums.specs.Places.{row_at};
+ghost use Rattle.core_case.specs.Kinds.{heading_view, is_kind, most_records, natural_in};
+ghost use Rattle.core_case.specs.Faults.{group_of, heading_of, key_of};
+ghost use Rattle.core_case.specs.declared.kinds.RecordKind.TheVariants.{End};
 ghost use Rattle.core_case.specs.Stated.{numbers_from};
 
 use crate::faults::RecordFault;
@@ -79,6 +81,8 @@ pub(crate) struct Register<'a> {
     pub(crate) rows: Vec<Row<'a>>,
     pub(crate) filed: IndexMap<Key<'a>, Filed<'a>>,
     pub(crate) counts: IndexMap<Group<'a>, usize>,
+    pub(crate) heading: Heading,
+    pub(crate) ended: bool,
 }
 
 impl<'a> Model for Register<'a> {
@@ -130,11 +134,40 @@ fn group_of<'a>(kind: RecordKind, row: &'a Fields) -> Group<'a>
     Group { kind, name }
 }
 
+/// The number in a field of a record, 0 where there is no such record.
+fn natural_at(rows: &[Row], place: usize, field: usize) -> usize
+    ensures value { result ≡ natural_in (row_at (map (λ r. r.fields.now) rows.now) place) field }
+    ensures bound { result < 2 ^ 63 }
+{
+    match rows.get(place) {
+        Some(row) => natural_in(row.fields, field),
+        None => 0,
+    }
+}
+
+/// What the first two of these records state, 0 where there is none.
+fn heading_of(rows: &[Row]) -> Heading
+    ensures { heading_view result ≡ heading_of (map (λ r. r.fields.now) rows.now) }
+{
+    Heading {
+        version: natural_at(rows, 0, 1),
+        horizon: natural_at(rows, 1, 2),
+        last: natural_at(rows, 1, 3),
+    }
+}
+
+/// Whether `end` is the last record, or was there before it.
+fn ends(ended: bool, last: &Row) -> bool
+    ensures { result ≡ (ended || is_kind End last.now.fields.now) }
+{
+    ended || last.is_of(RecordKind::End)
+}
+
 impl<'a> Register<'a> {
     ghost use Rattle.std.specs.Prelude.{◌≡◌, [], ◌∷◌, ◌++◌, true, nat_lt, length, map, option_map, is_some, IfOk, IfSome};
     ghost use Rattle.std.specs.List.{list_all};
     ghost use Rattle.core_case.specs.Stated.{numbers_from};
-    ghost use Rattle.core_case.specs.Kinds.{heading_view, is_kind, natural_in, references};
+    ghost use Rattle.core_case.specs.Kinds.{heading_view, is_kind, most_records, references};
     ghost use Rattle.core_case.specs.Faults.{filed, count_in, group_of, has_ended, is_declared, name_step, names_future, security_step, repeats, has_room, of_kind, has_limit, has_path, is_complete, book_fault, heading_of};
     ghost use Rattle.core_rows.specs.Steps.{first_of};
     ghost use Rattle.std.specs.Prelude.{◌≤◌, ◌<◌, ◌^◌};
@@ -149,6 +182,8 @@ impl<'a> Register<'a> {
             rows: Vec::new(alloc),
             filed: IndexMap::new(alloc),
             counts: IndexMap::new(alloc),
+            heading: heading_of(&[]),
+            ended: false,
         }
     }
 
@@ -167,8 +202,14 @@ impl<'a> Register<'a> {
             mut rows,
             mut filed,
             mut counts,
+            mut heading,
+            ended,
         } = self;
-        rows.push(Row { kind, fields: row })?;
+        let last = Row { kind, fields: row };
+        rows.push(last)?;
+        if rows.len() <= 2 {
+            heading = heading_of(&rows);
+        }
         let key = key_of(kind, row);
         if !filed.contains_key(&key) {
             filed.insert(
@@ -179,13 +220,17 @@ impl<'a> Register<'a> {
                 },
             )?;
         }
-        let group = group_of(kind, row);
-        let count = counts.get(&group).copied().unwrap_or(0);
-        counts.insert(group, count + 1)?;
+        if most_records(kind).is_some() {
+            let group = group_of(kind, row);
+            let count = counts.get(&group).copied().unwrap_or(0);
+            counts.insert(group, count + 1)?;
+        }
         Ok(Register {
             rows,
             filed,
             counts,
+            heading,
+            ended: ends(ended, &last),
         })
     }
 
@@ -203,26 +248,11 @@ impl<'a> Register<'a> {
         self.rows.len()
     }
 
-    /// The number in a field of a record, 0 where there is no such record.
-    fn natural_at(&self, place: usize, field: usize) -> usize
-        ensures value { result ≡ natural_in (row_at self.now place) field }
-        ensures bound { result < 2 ^ 63 }
-    {
-        match self.rows.get(place) {
-            Some(row) => natural_in(row.fields, field),
-            None => 0,
-        }
-    }
-
     /// What the first two records state: the version, the last closing day and the last house day; 0 where there is none.
     pub(crate) fn heading(&self) -> Heading
         ensures { heading_view result ≡ heading_of self.now }
     {
-        Heading {
-            version: self.natural_at(0, 1),
-            horizon: self.natural_at(1, 2),
-            last: self.natural_at(1, 3),
-        }
+        self.heading
     }
 
     /// The second record, which states the days of the case.
@@ -266,6 +296,7 @@ impl<'a> Register<'a> {
 
     /// How many records there are of what a record of this kind is counted with.
     fn count(&self, kind: RecordKind, row: &Fields) -> usize
+        requires { is_some (most_records kind) ≡ true }
         ensures { result ≡ count_in kind (group_of kind row.now) self.now }
     {
         self.counts.get(&group_of(kind, row)).copied().unwrap_or(0)
@@ -275,7 +306,7 @@ impl<'a> Register<'a> {
     pub(crate) fn has_ended(&self) -> bool
         ensures { result ≡ has_ended self.now }
     {
-        self.has(RecordKind::End, b"", b"")
+        self.ended
     }
 
     /// Whether a record of a kind declares this name; `HOUSE` is a market from the start.

@@ -1,24 +1,28 @@
 -- The register of one more record files and counts it.
-use Rattle.std.proofs.Common.{◌≡◌, ◌∙◌, sym, ap, subst, ◌≤◌, List, [], ◌∷◌, ◌++◌, length, map, arith}
+use Rattle.std.proofs.Common.{true, false, is_some, ◌||◌, ◌+◌, length-append, ◌≡◌, ◌∙◌, sym, ap, subst, ◌≤◌, List, [], ◌∷◌, ◌++◌, length, map, arith}
 use Rattle.std.proofs.lemmas.List.{map-append, length-map}
 use Rattle.std.specs.Option.{unwrap_or}
 use Rattle.indexmap.specs.IndexMap.{get}
 use Rattle.core_rows.specs.Names.{Record}
+use Rattle.core_case.specs.Kinds.{heading_view, is_kind, most_records}
+use Rattle.core_case.specs.Faults.{heading_of}
 use Rattle.core_case.specs.Filed.{records_in, Holds}
+use Rattle.core_case.specs.declared.kinds.RecordKind.TheVariants.{End}
+use Rattle.core_case.proofs.FiledHeading.{heading-kept, ended-more}
 use Rattle.core_case.specs.declared.register.Key.{Key}
-use Rattle.core_case.specs.declared.register.Group.{Group}
 use Rattle.core_case.proofs.FiledKeys.{same_key, same_group, IsKeyOf, IsGroupOf}
-use Rattle.core_case.proofs.FiledMore.{filed_at, counted_in, filed-inserted, filed-kept, counted-raised, counted-most, value_at}
+use Rattle.core_case.proofs.FiledMore.{filed_at, counted_in, filed-inserted, filed-kept, IsCounted, counted-raised, counted-kept, counted-most, value_at}
 use Rattle.core_case.proofs.register.Register.with.Goals as goal
-use Rattle.core_case.proofs.register.Register.with.Goals.{then-not-contains_key+in_ok-insert, else-not-contains_key}
+use Rattle.core_case.proofs.register.Register.with.Goals.{then-not-contains_key+in_ok-insert, else-not-contains_key, then-len-le2, else-len-le2, then-is_some+in_ok-insert-2, else-is_some}
 
 -- a group has no more records than there are rows
 pub overflow_add-count : goal.overflow_add-count
 overflow_add-count c =
     let rs = records_in c.self.inside in
+    let limited : is_some (most_records c.group_of-group.result.kind) ≡ true = ap (λ k. is_some (most_records k)) c.group_of-group.ensures.kind ∙ ap is_some (sym c.most_records.ensures) ∙ sym c.if-is_some.ensures in
     let is : c.unwrap_or-count.result ≡ unwrap_or (get same_group c.self.inside.counts c.group_of-group.result) 0 =
     c.unwrap_or-count.ensures ∙ ap (λ o. unwrap_or o 0) (c.copied.ensures ∙ c.get.ensures.value) in
-    let counted : c.unwrap_or-count.result ≡ counted_in c.group_of-group.result rs = is ∙ c.self.invariant.counted c.group_of-group.result in
+    let counted : c.unwrap_or-count.result ≡ counted_in c.group_of-group.result rs = is ∙ c.self.invariant.counted c.group_of-group.result limited in
     let most : counted_in c.group_of-group.result rs ≤ length rs = counted-most c.group_of-group.result rs in
     let long : length rs ≡ length c.self.inside.rows.items = length-map c.self.inside.rows.items (λ r. r.fields.now) in
     omega arith
@@ -31,8 +35,6 @@ invariant_of-result c =
     ap (map (λ r. r.fields.now)) c.in_ok-push.ensures.items ∙ map-append (λ r. r.fields.now) c.self.inside.rows.items _ in
     let keyed : IsKeyOf c.args.kind c.args.row.now c.key_of-key.result =
     record { kind_is = c.key_of-key.ensures.kind; first_is = c.key_of-key.ensures.first; second_is = c.key_of-key.ensures.second } in
-    let grouped : IsGroupOf c.args.kind c.args.row.now c.group_of-group.result =
-    record { kind_is = c.group_of-group.ensures.kind; name_is = c.group_of-group.ensures.name } in
     let filed : (k : Key) → value_at (get same_key c.if-not-contains_key.filed k) ≡ filed_at k (rs ++ (c.args.row.now ∷ [])) =
     elim c.if-not-contains_key.branch [
       | then-not-contains_key+in_ok-insert w ↦
@@ -44,12 +46,35 @@ invariant_of-result c =
           ∙ filed-kept c.args.kind c.args.row.now c.key_of-key.result rs c.requires.of_kind keyed (get same_key c.self.inside.filed)
           c.self.invariant.filed_as (sym c.contains_key.ensures ∙ w.if-not-contains_key.false) k
     ] in
-    let count : c.unwrap_or-count.result ≡ unwrap_or (get same_group c.self.inside.counts c.group_of-group.result) 0 =
-    c.unwrap_or-count.ensures ∙ ap (λ o. unwrap_or o 0) (c.copied.ensures ∙ c.get.ensures.value) in
-    let counts : (g : Group) → unwrap_or (get same_group c.insert-2.new.self g) 0 ≡ counted_in g (rs ++ (c.args.row.now ∷ [])) =
-    counted-raised c.args.kind c.args.row.now c.group_of-group.result rs c.requires.of_kind grouped (get same_group c.self.inside.counts) (get same_group c.insert-2.new.self)
-    c.unwrap_or-count.result c.self.invariant.counted count c.in_ok-insert-2.ensures.updates.0 in
+    let grown : length c.push.new.self.items ≡ length c.self.inside.rows.items + 1 = ap length c.in_ok-push.ensures.items ∙ length-append c.self.inside.rows.items _ in
+    let same : length rs ≡ length c.self.inside.rows.items = length-map c.self.inside.rows.items (λ r. r.fields.now) in
+    let heading : heading_view c.if-len-le2.heading ≡ heading_of (rs ++ (c.args.row.now ∷ [])) =
+    elim c.if-len-le2.branch [
+      | then-len-le2 w ↦
+          ap heading_view w.heading-is ∙ w.heading_of-heading.ensures
+          ∙ ap (λ rows. heading_of (map (λ r. r.fields.now) rows)) w.deref.ensures.value ∙ ap heading_of pushed
+      | else-len-le2 w ↦
+          let long : 2 ≤ length rs = omega (arith, grown, same) in
+          ap heading_view w.heading-is ∙ c.self.invariant.heading_is ∙ sym (heading-kept rs c.args.row.now long)
+    ] in
+    let counts : IsCounted (get same_group c.if-is_some.counts) (rs ++ (c.args.row.now ∷ [])) =
+    elim c.if-is_some.branch [
+      | then-is_some+in_ok-insert-2 w ↦
+          let grouped : IsGroupOf c.args.kind c.args.row.now w.group_of-group.result =
+          record { kind_is = w.group_of-group.ensures.kind; name_is = w.group_of-group.ensures.name } in
+          let limited : is_some (most_records w.group_of-group.result.kind) ≡ true =
+          ap (λ k. is_some (most_records k)) w.group_of-group.ensures.kind ∙ ap is_some (sym c.most_records.ensures) ∙ sym w.if-is_some.ensures in
+          let count : w.unwrap_or-count.result ≡ unwrap_or (get same_group c.self.inside.counts w.group_of-group.result) 0 =
+          w.unwrap_or-count.ensures ∙ ap (λ o. unwrap_or o 0) (w.copied.ensures ∙ w.get.ensures.value) in
+          λ g asked. ap (λ m. unwrap_or (get same_group m g) 0) w.counts-is
+          ∙ counted-raised c.args.kind c.args.row.now w.group_of-group.result rs c.requires.of_kind grouped (get same_group c.self.inside.counts)
+          (get same_group w.insert-then-is_some.new.self) w.unwrap_or-count.result limited c.self.invariant.counted count w.in_ok-insert-2.ensures.updates.0 g asked
+      | else-is_some w ↦
+          let free : is_some (most_records c.args.kind) ≡ false = ap is_some (sym c.most_records.ensures) ∙ sym w.if-is_some.ensures in
+          λ g asked. ap (λ m. unwrap_or (get same_group m g) 0) w.counts-is
+          ∙ counted-kept c.args.kind c.args.row.now rs c.requires.of_kind free (get same_group c.self.inside.counts) c.self.invariant.counted g asked
+    ] in
     subst
-    (Holds same_key same_group record { rows = c.push.new.self; filed = c.if-not-contains_key.filed; counts = c.insert-2.new.self })
+    (Holds same_key same_group record { rows = c.push.new.self; filed = c.if-not-contains_key.filed; counts = c.if-is_some.counts; heading = c.if-len-le2.heading; ended = c.ends.result })
     (sym pushed)
-    (record { filed_as = filed; counted = counts })
+    (record { filed_as = filed; counted = counts; heading_is = heading; ended_is = c.ends.ensures ∙ ap (λ b. b || is_kind End c.args.row.now) c.self.invariant.ended_is ∙ sym (ended-more rs c.args.row.now) })
