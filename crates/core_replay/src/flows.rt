@@ -21,6 +21,7 @@ fn size(case: &Case, l: usize) -> i64
     requires line { l < line_count case.now }
     ensures { result ≡ size case.now l }
 {
+    // Every case keeps the ranges and references of a well-formed one.
     let _kept = case.horizon();
     let line = case.line(l);
     i64::from(line.sign) * case.instrument(line.instrument).mult
@@ -34,6 +35,7 @@ fn price_change(case: &Case, scenario: usize, l: usize, t: u8, marked_on: u8) ->
     requires marked { marked_on ≡ day_before case.now (instrument_of case.now l) t }
     ensures { result ≡ price_change case.now scenario l t }
 {
+    // Every case keeps the ranges and references of a well-formed one.
     let _kept = case.horizon();
     let i = case.line(l).instrument;
     case.price(scenario, i, t) - case.price(scenario, i, marked_on)
@@ -47,6 +49,7 @@ fn unit_of(case: &Case, scenario: usize, l: usize, t: u8, marked_on: u8) -> i64
     requires marked { marked_on ≡ day_before case.now (instrument_of case.now l) t }
     ensures { result ≡ unit_of case.now scenario l t }
 {
+    // Every case keeps the ranges and references of a well-formed one.
     let _kept = case.horizon();
     let i = case.line(l).instrument;
     match case.instrument(i).kind {
@@ -142,6 +145,7 @@ fn pay_day(case: &Case, l: usize, t: u8) -> Option<u8>
     requires day { t ≤ case.now.last }
     ensures { result ≡ pays case.now (instrument_of case.now l) t }
 {
+    // Every case keeps the ranges and references of a well-formed one.
     let _kept = case.horizon();
     case.pays(case.line(l).instrument, t)
 }

@@ -72,6 +72,7 @@ fn marked_after(case: &Case, l: usize, t: u8, marked_on: u8) -> u8
     requires marked { marked_on ≡ day_before case.now (instrument_of case.now l) t }
     ensures { result ≡ day_before case.now (instrument_of case.now l) (suc t) }
 {
+    // Every case keeps the ranges and references of a well-formed one.
     let _kept = case.horizon();
     if case.is_open(case.line(l).instrument, t) {
         t

@@ -28,6 +28,7 @@ pub(crate) fn tier_cell(case: &Case, rows: usize, place: usize) -> ClosingCell
     requires place { place < case.now.horizon * (rows * tiers case.now) }
     ensures { IsTierCell case.now rows place result }
 {
+    // Every case keeps the ranges and references of a well-formed one.
     let _kept = case.horizon();
     let tiers = usize::from(case.tiers());
     let row_and_tier = place % (rows * tiers);
@@ -43,6 +44,7 @@ pub(crate) fn day_cell(case: &Case, rows: usize, place: usize) -> DayCell
     requires place { place < case.now.horizon * rows }
     ensures { IsDayCell case.now rows place result }
 {
+    // Every case keeps the ranges and references of a well-formed one.
     let _kept = case.horizon();
     DayCell {
         row: place % rows,

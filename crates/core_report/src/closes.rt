@@ -92,6 +92,7 @@ pub(crate) fn limit_start(
     ensures { IfOk result (λ row. row
         ≡ limit_fields case.now dates.now cell.day cell.row cell.tier) }
 {
+    // Every case keeps the ranges and references of a well-formed one.
     let _kept = case.horizon();
     let mut row = Row::start(alloc, b"limit")?;
     row.push_date(dates, cell.day)?;
@@ -159,6 +160,7 @@ pub(crate) fn pool_start(
     requires day { IsClosingDay case.now cell.day }
     ensures { IfOk result (λ row. row ≡ pool_fields case.now dates.now cell.day cell.row) }
 {
+    // Every case keeps the ranges and references of a well-formed one.
     let _kept = case.horizon();
     let mut row = Row::start(alloc, b"pool")?;
     row.push_date(dates, cell.day)?;

@@ -107,6 +107,7 @@ fn is_pooled(case: &Case, p: usize, u: u8, m: usize) -> bool
     requires member { m < length case.now.members }
     ensures { result ≡ is_pooled case.now p u m }
 {
+    // Every case keeps the ranges and references of a well-formed one.
     let _kept = case.horizon();
     let member = case.member(m);
     member.pool == p && case.counts(member.instrument, u)
