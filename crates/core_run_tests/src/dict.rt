@@ -1,7 +1,8 @@
 ghost use Rattle.std.specs.Prelude.{◌≡◌, ◌↔◌, ◌≤◌, ◌^◌, IsTrue, unsigned_abs};
 ghost use Rattle.fractions.specs.Fraction.{zero_q};
 
-use core_dict::{Dense, PivotFault, Programme, Store, Widen};
+use core_dict::{Dense, PivotFault, Programme, RowEntry, Store, Widen};
+use core_sparse::Sparse;
 use exact_frac::{Exact, Frac64, Frac128};
 use std::alloc::{AllocError, Global};
 use std::process::Abort;
@@ -144,5 +145,79 @@ fn a_pivot_that_leaves_64_bits(rt: HostRuntime) -> Result<(), Fail> {
     let after =
         "1: 1/10000000 -1/10000000 1/10000000 0\n5: -9999999/10000000 -1/10000000 -9999999999999999999/10000000 0\n4: 0\n2: 0\n3: 1\n";
     assert_eq!(rt; text_of(alloc, &wide)?.as_str(), after);
+    Ok(())
+}
+
+// an entry's column and numbers
+fn numbers_of<E: Exact>(col: usize, value: E) -> (usize, (i128, i128)) {
+    (col, (value.num(), value.den()))
+}
+
+// the first entry of a row from a column on that is not 0, entry by entry
+fn first_entry<E: Exact, D: Store<E>>(
+    rt: &impl Abort,
+    dict: &D,
+    row: usize,
+    from: usize,
+) -> Option<(usize, (i128, i128))> {
+    assert!(rt; row < dict.rows());
+    for col in from..dict.cols() {
+        let value = dict.entry(row, col);
+        if !is_zero(value) {
+            return Some(numbers_of(col, value));
+        }
+    }
+    None
+}
+
+// looks that it is the next entry, wherever the search for that begins
+fn each_next_entry_is_the_first<E: Exact, D: Store<E>>(rt: &impl Abort, dict: &D, row: usize) {
+    assert!(rt; row < dict.rows());
+    for from in 0..dict.cols() {
+        for place in 0..dict.cols() {
+            let next = dict.next_entry(row, from, place);
+            let numbers = next.map(|x: RowEntry<E>| numbers_of(x.col, x.value));
+            assert_eq!(rt; numbers, first_entry(rt, dict, row, from));
+        }
+    }
+}
+
+// the columns and numbers of the entries that are not 0, along the row
+fn walked<E: Exact, D: Store<E>>(
+    rt: &impl Abort,
+    alloc: Global,
+    dict: &D,
+    row: usize,
+) -> Result<Vec<(usize, (i128, i128))>, AllocError> {
+    assert!(rt; row < dict.rows());
+    let mut along = Vec::new(alloc);
+    let (mut from, mut place) = (0, 0);
+    for _ in 0..dict.cols() {
+        if let Some(next) = dict.next_entry(row, from, place) {
+            along.push(numbers_of(next.col, next.value))?;
+            from = next.col.saturating_add(1);
+            place = next.place;
+        }
+    }
+    Ok(along)
+}
+
+#[test]
+fn a_walk_along_a_row(rt: HostRuntime) -> Result<(), Fail> {
+    let alloc = rt.alloc();
+    let programme = programme_of(&rt, alloc, &TEN_ROWS)?;
+    let dense = Dense::<Frac64>::start(alloc, &programme)?;
+    let mut sparse = Sparse::<Frac64>::start(alloc, &programme)?;
+    let along = [(0, (-8, 1)), (2, (-1, 1))];
+    assert_eq!(rt; walked(&rt, alloc, &dense, 4)?.as_slice(), along.as_slice());
+    assert_eq!(rt;
+        walked(&rt, alloc, &sparse, 4)?.as_slice(),
+        along.as_slice()
+    );
+    assert_eq!(rt; pivot(&rt, alloc, &mut sparse, 6, 0), Ok(()));
+    for row in 0..10 {
+        each_next_entry_is_the_first(&rt, &dense, row);
+        each_next_entry_is_the_first(&rt, &sparse, row);
+    }
     Ok(())
 }

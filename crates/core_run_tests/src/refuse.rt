@@ -1,5 +1,5 @@
 // A dictionary that is refused memory at one of its pivots.
-use core_dict::{Dense, PivotFault, Programme, Store, Widen};
+use core_dict::{Dense, PivotFault, Programme, RowEntry, Store, Widen};
 use exact_frac::{Exact, Frac64, Frac128};
 use std::alloc::{AllocError, Global};
 
@@ -50,6 +50,10 @@ impl<E: Exact, const K: u64> Store<E> for Refuse<E, K> {
 
     fn entry(&self, row: usize, col: usize) -> E {
         self.under.entry(row, col)
+    }
+
+    fn next_entry(&self, row: usize, from: usize, place: usize) -> Option<RowEntry<E>> {
+        self.under.next_entry(row, from, place)
     }
 
     fn cost(&self, col: usize) -> E {
