@@ -1,10 +1,10 @@
 // The sound records that were read so far, filed by their keys.
-ghost use Rattle.std.specs.Prelude.{◌≡◌, ◌<◌, ◌^◌, ◌||◌, true, map, IfSome};
+ghost use Rattle.std.specs.Prelude.{◌≡◌, ◌<◌, ◌^◌, ◌||◌, [], ◌∷◌, ◌++◌, true, map, IfOk, IfSome};
 ghost use Rattle.std.proofs.Props.{props};
 ghost use Rattle.core_sums.specs.Places.{row_at};
 ghost use Rattle.core_case.specs.Kinds.{heading_view, is_kind, most_records, natural_in};
-ghost use Rattle.core_case.specs.Faults.{group_of, heading_of, key_of};
-ghost use Rattle.core_case.specs.declared.kinds.RecordKind.TheVariants.{End};
+ghost use Rattle.core_case.specs.Faults.{group_of, heading_of, key_of, of_kind};
+ghost use Rattle.core_case.specs.declared.kinds.RecordKind.TheVariants.{End, Instrument};
 ghost use Rattle.core_case.specs.Stated.{numbers_from};
 
 use crate::faults::RecordFault;
@@ -81,6 +81,7 @@ pub(crate) struct Register<'a> {
     pub(crate) rows: Vec<Row<'a>>,
     pub(crate) filed: IndexMap<Key<'a>, Filed<'a>>,
     pub(crate) counts: IndexMap<Group<'a>, usize>,
+    pub(crate) instruments: Vec<&'a Fields>,
     pub(crate) heading: Heading,
     pub(crate) ended: bool,
 }
@@ -156,6 +157,21 @@ fn heading_of(rows: &[Row]) -> Heading
     }
 }
 
+/// The instruments with the last record, where it is one.
+fn with_instrument<'a>(
+    mut instruments: Vec<&'a Fields>,
+    last: &Row<'a>,
+) -> Result<Vec<&'a Fields>, AllocError>
+    ensures { IfOk result (λ v. map (λ r. r.now) v.items
+        ≡ map (λ r. r.now) instruments.entry.items
+        ++ of_kind Instrument (last.now.fields.now ∷ [])) }
+{
+    if last.is_of(RecordKind::Instrument) {
+        instruments.push(last.fields)?;
+    }
+    Ok(instruments)
+}
+
 /// Whether `end` is the last record, or was there before it.
 fn ends(ended: bool, last: &Row) -> bool
     ensures { result ≡ (ended || is_kind End last.now.fields.now) }
@@ -182,6 +198,7 @@ impl<'a> Register<'a> {
             rows: Vec::new(alloc),
             filed: IndexMap::new(alloc),
             counts: IndexMap::new(alloc),
+            instruments: Vec::new(alloc),
             heading: heading_of(&[]),
             ended: false,
         }
@@ -202,11 +219,13 @@ impl<'a> Register<'a> {
             mut rows,
             mut filed,
             mut counts,
+            instruments,
             mut heading,
             ended,
         } = self;
         let last = Row { kind, fields: row };
         rows.push(last)?;
+        let instruments = with_instrument(instruments, &last)?;
         if rows.len() <= 2 {
             heading = heading_of(&rows);
         }
@@ -229,6 +248,7 @@ impl<'a> Register<'a> {
             rows,
             filed,
             counts,
+            instruments,
             heading,
             ended: ends(ended, &last),
         })
@@ -402,14 +422,7 @@ impl<'a> Register<'a> {
     fn has_paths(&self, scenario: &Fields) -> bool
         ensures { result ≡ list_all (has_path self.now scenario.now) (of_kind Instrument self.now) }
     {
-        for row in &self.rows {
-            if row.is_of(RecordKind::Instrument)
-                && !self.has(RecordKind::Path, scenario.word(1), row.fields.word(1))
-            {
-                return false;
-            }
-        }
-        true
+        self.instruments.iter().all(|row| self.has(RecordKind::Path, scenario.word(1), row.word(1)))
     }
 
     /// Whether each scenario has the paths of all instruments.
@@ -430,14 +443,9 @@ impl<'a> Register<'a> {
     fn has_limits(&self) -> bool
         ensures { result ≡ list_all (has_limit self.now) (of_kind Instrument self.now) }
     {
-        for row in &self.rows {
-            if row.is_of(RecordKind::Instrument)
-                && !self.has(RecordKind::Limit, row.fields.word(1), b"")
-            {
-                return false;
-            }
-        }
-        true
+        self.instruments
+            .iter()
+            .all(|row| self.has(RecordKind::Limit, row.word(1), b""))
     }
 
     /// Whether there is a scenario.

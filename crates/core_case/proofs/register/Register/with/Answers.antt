@@ -1,13 +1,14 @@
 -- The register of one more record files and counts it.
 use Rattle.std.proofs.Common.{true, false, is_some, ◌||◌, ◌+◌, length-append, ◌≡◌, ◌∙◌, sym, ap, subst, ◌≤◌, List, [], ◌∷◌, ◌++◌, length, map, arith}
 use Rattle.std.proofs.lemmas.List.{map-append, length-map}
+use Rattle.std.proofs.lemmas.List.Elements.{filter-append}
 use Rattle.std.specs.Option.{unwrap_or}
 use Rattle.indexmap.specs.IndexMap.{get}
 use Rattle.core_rows.specs.Names.{Record}
 use Rattle.core_case.specs.Kinds.{heading_view, is_kind, most_records}
-use Rattle.core_case.specs.Faults.{heading_of}
+use Rattle.core_case.specs.Faults.{heading_of, of_kind}
 use Rattle.core_case.specs.Filed.{records_in, Holds}
-use Rattle.core_case.specs.declared.kinds.RecordKind.TheVariants.{End}
+use Rattle.core_case.specs.declared.kinds.RecordKind.TheVariants.{End, Instrument}
 use Rattle.core_case.proofs.FiledHeading.{heading-kept, ended-more}
 use Rattle.core_case.specs.declared.register.Key.{Key}
 use Rattle.core_case.proofs.FiledKeys.{same_key, same_group, IsKeyOf, IsGroupOf}
@@ -74,7 +75,10 @@ invariant_of-result c =
           λ g asked. ap (λ m. unwrap_or (get same_group m g) 0) w.counts-is
           ∙ counted-kept c.args.kind c.args.row.now rs c.requires.of_kind free (get same_group c.self.inside.counts) c.self.invariant.counted g asked
     ] in
+    let instruments : map (λ r. r.now) c.in_ok-instruments.instruments.items ≡ of_kind Instrument (rs ++ (c.args.row.now ∷ [])) =
+    c.in_ok-instruments.ensures ∙ ap (λ xs. xs ++ of_kind Instrument (c.args.row.now ∷ [])) c.self.invariant.instruments_are
+    ∙ sym (filter-append (is_kind Instrument) rs (c.args.row.now ∷ [])) in
     subst
-    (Holds same_key same_group record { rows = c.push.new.self; filed = c.if-not-contains_key.filed; counts = c.if-is_some.counts; heading = c.if-len-le2.heading; ended = c.ends.result })
+    (Holds same_key same_group record { rows = c.push.new.self; filed = c.if-not-contains_key.filed; counts = c.if-is_some.counts; instruments = c.in_ok-instruments.instruments; heading = c.if-len-le2.heading; ended = c.ends.result })
     (sym pushed)
-    (record { filed_as = filed; counted = counts; heading_is = heading; ended_is = c.ends.ensures ∙ ap (λ b. b || is_kind End c.args.row.now) c.self.invariant.ended_is ∙ sym (ended-more rs c.args.row.now) })
+    (record { filed_as = filed; counted = counts; instruments_are = instruments; heading_is = heading; ended_is = c.ends.ensures ∙ ap (λ b. b || is_kind End c.args.row.now) c.self.invariant.ended_is ∙ sym (ended-more rs c.args.row.now) })
