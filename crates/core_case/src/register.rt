@@ -64,12 +64,13 @@ impl<'a> Filed<'a> {
     ghost use Rattle.std.specs.Prelude.{◌≡◌, IfOk};
     ghost use Rattle.core_case.specs.Stated.{numbers_from};
 
-    /// The prices that the record states where it is a path.
-    pub(crate) fn prices(&self, alloc: Global) -> Result<Vec<i64>, AllocError>
-        ensures { IfOk result (λ v. v.items ≡ numbers_from 3 self.now.fields.now) }
+    /// The prices that the record states where it is a path, which leave it.
+    fn take_prices(&mut self, alloc: Global) -> Result<Vec<i64>, AllocError>
+        ensures kept { self.new.fields ≡ self.old.fields }
+        ensures prices { IfOk result (λ v. v.items ≡ numbers_from 3 self.old.fields.now) }
     {
-        match &self.prices {
-            Some(prices) => Vec::from_slice(alloc, prices),
+        match self.prices.take() {
+            Some(prices) => Ok(prices),
             None => numbers_from(alloc, self.fields, 3),
         }
     }
@@ -182,7 +183,7 @@ fn ends(ended: bool, last: &Row) -> bool
 impl<'a> Register<'a> {
     ghost use Rattle.std.specs.Prelude.{◌≡◌, [], ◌∷◌, ◌++◌, true, nat_lt, length, map, option_map, is_some, IfOk, IfSome};
     ghost use Rattle.std.specs.List.{list_all};
-    ghost use Rattle.core_case.specs.Stated.{numbers_from};
+    ghost use Rattle.core_case.specs.Stated.{numbers_from, prices_of};
     ghost use Rattle.core_case.specs.Kinds.{heading_view, is_kind, most_records, references};
     ghost use Rattle.core_case.specs.Faults.{filed, count_in, group_of, has_ended, is_declared, name_step, names_future, security_step, repeats, has_room, of_kind, has_limit, has_path, is_complete, book_fault, heading_of};
     ghost use Rattle.core_rows.specs.Steps.{first_of};
@@ -283,28 +284,38 @@ impl<'a> Register<'a> {
         self.rows[1].fields
     }
 
-    /// The first record of a kind with this key, as it is filed.
-    pub(crate) fn filed_at<'s>(
-        &'s self,
-        kind: RecordKind,
-        first: &'s [u8],
-        second: &'s [u8],
-    ) -> Option<&'s Filed<'a>>
-        ensures { option_map (λ f. f.now.fields.now) result
-            ≡ filed kind first.now second.now self.now }
-    {
-        self.filed.get(&Key {
-            kind,
-            first,
-            second,
-        })
-    }
-
     /// The first record of a kind with this key.
     pub(crate) fn find(&self, kind: RecordKind, first: &[u8], second: &[u8]) -> Option<&'a Fields>
         ensures { option_map (λ r. r.now) result ≡ filed kind first.now second.now self.now }
     {
-        Some(self.filed_at(kind, first, second)?.fields)
+        let key = Key {
+            kind,
+            first,
+            second,
+        };
+        Some(self.filed.get(&key)?.fields)
+    }
+
+    /// The prices of an instrument in a scenario, none where no record states them. They leave the register.
+    pub(crate) fn take_prices(
+        &mut self,
+        alloc: Global,
+        scenario: &'a [u8],
+        instrument: &'a [u8],
+    ) -> Result<Vec<i64>, AllocError>
+        ensures kept { self.new ≡ self.old }
+        ensures prices { IfOk result (λ v.
+            v.items ≡ prices_of self.old scenario.now instrument.now) }
+    {
+        let key = Key {
+            kind: RecordKind::Path,
+            first: scenario,
+            second: instrument,
+        };
+        match self.filed.get_mut(&key) {
+            Some(path) => path.take_prices(alloc),
+            None => Ok(Vec::new(alloc)),
+        }
     }
 
     /// Whether there is a record of a kind with this key.
