@@ -184,6 +184,7 @@ impl<'a> Register<'a> {
     ghost use Rattle.std.specs.Prelude.{◌≡◌, [], ◌∷◌, ◌++◌, true, nat_lt, length, map, option_map, is_some, IfOk, IfSome};
     ghost use Rattle.std.specs.List.{list_all};
     ghost use Rattle.core_case.specs.Stated.{numbers_from, prices_of};
+    ghost use Rattle.core_case.specs.Filed.{FilesOnce};
     ghost use Rattle.core_case.specs.Kinds.{heading_view, is_kind, most_records, references};
     ghost use Rattle.core_case.specs.Faults.{filed, count_in, group_of, has_ended, is_declared, name_step, names_future, security_step, repeats, has_room, of_kind, has_limit, has_path, is_complete, book_fault, heading_of};
     ghost use Rattle.core_rows.specs.Steps.{first_of};
@@ -205,6 +206,19 @@ impl<'a> Register<'a> {
         }
     }
 
+    /// The filed records with one more, unless one is filed under its key.
+    fn with_filed(
+        mut filed: IndexMap<Key<'a>, Filed<'a>>,
+        key: Key<'a>,
+        more: Filed<'a>,
+    ) -> Result<IndexMap<Key<'a>, Filed<'a>>, AllocError>
+        ensures { IfOk result
+            (FilesOnce ⟦<Key<'static> as PartialEq>⟧.eq filed.entry key.entry more.entry) }
+    {
+        filed.entry(key)?.or_insert(more);
+        Ok(filed)
+    }
+
     /// The records with one more of this kind, whose prices may have been read.
     pub(crate) fn with(
         self,
@@ -218,7 +232,7 @@ impl<'a> Register<'a> {
     {
         let Register {
             mut rows,
-            mut filed,
+            filed,
             mut counts,
             instruments,
             mut heading,
@@ -231,15 +245,11 @@ impl<'a> Register<'a> {
             heading = heading_of(&rows);
         }
         let key = key_of(kind, row);
-        if !filed.contains_key(&key) {
-            filed.insert(
-                key,
-                Filed {
-                    fields: row,
-                    prices,
-                },
-            )?;
-        }
+        let more = Filed {
+            fields: row,
+            prices,
+        };
+        let filed = Register::with_filed(filed, key, more)?;
         if most_records(kind).is_some() {
             let group = group_of(kind, row);
             let count = counts.get(&group).copied().unwrap_or(0);
