@@ -99,6 +99,25 @@ filed-kept kind r key rs h of old files present k = split (same_key key k) refl
     split false e =
         files k ∙ sym (filed-push kind r key k rs h of ∙ ap (λ b. option_or (filed_at k rs) (cond b (Some r) None)) e ∙ or-none (filed_at k rs))
 
+-- and the map with the record put in where its key is new
+pub filed-once : (kind : RecordKind) (f : Filed) (key : Key) (rs : List Record) → is_kind kind f.fields.now ≡ true → IsKeyOf kind f.fields.now key
+    → (old new : Key → Option Filed) → ((k : Key) → value_at (old k) ≡ filed_at k rs)
+    → ((k : Key) → new k ≡ cond (same_key key k) (Some (unwrap_or (old key) f)) (old k)) → (k : Key) → value_at (new k) ≡ filed_at k (rs ++ (f.fields.now ∷ []))
+filed-once kind f key rs h of old new files puts = split (old key) refl
+  where
+    written : (g : Filed) → old key ≡ Some g → (k : Key) (b : Bool) → same_key key k ≡ b → value_at (new k) ≡ value_at (old k)
+    written g there k true e =
+        ap value_at (puts k) ∙ ap (λ b. value_at (cond b (Some (unwrap_or (old key) f)) (old k))) e ∙ ap (λ o. value_at (Some (unwrap_or o f))) there
+        ∙ sym (ap value_at there) ∙ files key ∙ sym (filed-alike key k rs e) ∙ sym (files k)
+    written g there k false e = ap value_at (puts k) ∙ ap (λ b. value_at (cond b (Some (unwrap_or (old key) f)) (old k))) e
+
+    split : (o : Option Filed) → old key ≡ o → (k : Key) → value_at (new k) ≡ filed_at k (rs ++ (f.fields.now ∷ []))
+    split None absent k =
+        filed-inserted kind f key rs h of old new files (ap is_some absent)
+        (λ q. puts q ∙ ap (λ o. cond (same_key key q) (Some (unwrap_or o f)) (old q)) absent) k
+    split (Some g) there k =
+        written g there k (same_key key k) refl ∙ filed-kept kind f.fields.now key rs h of old files (ap is_some there) k
+
 -- what is counted of a map from groups
 abbrev pub IsCounted : (Group → Option ℕ) → List Record → Type 0
 IsCounted counts rs = (g : Group) → is_some (most_records g.kind) ≡ true → unwrap_or (counts g) 0 ≡ counted_in g rs

@@ -140,6 +140,6 @@ pub fn read_case(alloc: Global, bytes: &[u8]) -> Result<Case, CaseFault>
     let rows = records(alloc, bytes)?;
     let register = read_rows(alloc, &rows)?;
     ended(&register)?;
-    let book = state_book(alloc, &register)?;
+    let book = state_book(alloc, register)?;
     Ok(Case::of_book(alloc, book)?)
 }

@@ -1,10 +1,10 @@
 // The sound records that were read so far, filed by their keys.
-ghost use Rattle.std.specs.Prelude.{◌≡◌, ◌<◌, ◌^◌, ◌||◌, true, map, IfSome};
+ghost use Rattle.std.specs.Prelude.{◌≡◌, ◌<◌, ◌^◌, ◌||◌, [], ◌∷◌, ◌++◌, true, map, IfOk, IfSome};
 ghost use Rattle.std.proofs.Props.{props};
 ghost use Rattle.core_sums.specs.Places.{row_at};
 ghost use Rattle.core_case.specs.Kinds.{heading_view, is_kind, most_records, natural_in};
-ghost use Rattle.core_case.specs.Faults.{group_of, heading_of, key_of};
-ghost use Rattle.core_case.specs.declared.kinds.RecordKind.TheVariants.{End};
+ghost use Rattle.core_case.specs.Faults.{group_of, heading_of, key_of, of_kind};
+ghost use Rattle.core_case.specs.declared.kinds.RecordKind.TheVariants.{End, Instrument};
 ghost use Rattle.core_case.specs.Stated.{numbers_from};
 
 use crate::faults::RecordFault;
@@ -64,12 +64,13 @@ impl<'a> Filed<'a> {
     ghost use Rattle.std.specs.Prelude.{◌≡◌, IfOk};
     ghost use Rattle.core_case.specs.Stated.{numbers_from};
 
-    /// The prices that the record states where it is a path.
-    pub(crate) fn prices(&self, alloc: Global) -> Result<Vec<i64>, AllocError>
-        ensures { IfOk result (λ v. v.items ≡ numbers_from 3 self.now.fields.now) }
+    /// The prices that the record states where it is a path, which leave it.
+    fn take_prices(&mut self, alloc: Global) -> Result<Vec<i64>, AllocError>
+        ensures kept { self.new.fields ≡ self.old.fields }
+        ensures prices { IfOk result (λ v. v.items ≡ numbers_from 3 self.old.fields.now) }
     {
-        match &self.prices {
-            Some(prices) => Vec::from_slice(alloc, prices),
+        match self.prices.take() {
+            Some(prices) => Ok(prices),
             None => numbers_from(alloc, self.fields, 3),
         }
     }
@@ -81,6 +82,7 @@ pub(crate) struct Register<'a> {
     pub(crate) rows: Vec<Row<'a>>,
     pub(crate) filed: IndexMap<Key<'a>, Filed<'a>>,
     pub(crate) counts: IndexMap<Group<'a>, usize>,
+    pub(crate) instruments: Vec<&'a Fields>,
     pub(crate) heading: Heading,
     pub(crate) ended: bool,
 }
@@ -156,6 +158,21 @@ fn heading_of(rows: &[Row]) -> Heading
     }
 }
 
+/// The instruments with the last record, where it is one.
+fn with_instrument<'a>(
+    mut instruments: Vec<&'a Fields>,
+    last: &Row<'a>,
+) -> Result<Vec<&'a Fields>, AllocError>
+    ensures { IfOk result (λ v. map (λ r. r.now) v.items
+        ≡ map (λ r. r.now) instruments.entry.items
+        ++ of_kind Instrument (last.now.fields.now ∷ [])) }
+{
+    if last.is_of(RecordKind::Instrument) {
+        instruments.push(last.fields)?;
+    }
+    Ok(instruments)
+}
+
 /// Whether `end` is the last record, or was there before it.
 fn ends(ended: bool, last: &Row) -> bool
     ensures { result ≡ (ended || is_kind End last.now.fields.now) }
@@ -166,7 +183,8 @@ fn ends(ended: bool, last: &Row) -> bool
 impl<'a> Register<'a> {
     ghost use Rattle.std.specs.Prelude.{◌≡◌, [], ◌∷◌, ◌++◌, true, nat_lt, length, map, option_map, is_some, IfOk, IfSome};
     ghost use Rattle.std.specs.List.{list_all};
-    ghost use Rattle.core_case.specs.Stated.{numbers_from};
+    ghost use Rattle.core_case.specs.Stated.{numbers_from, prices_of};
+    ghost use Rattle.core_case.specs.Filed.{FilesOnce};
     ghost use Rattle.core_case.specs.Kinds.{heading_view, is_kind, most_records, references};
     ghost use Rattle.core_case.specs.Faults.{filed, count_in, group_of, has_ended, is_declared, name_step, names_future, security_step, repeats, has_room, of_kind, has_limit, has_path, is_complete, book_fault, heading_of};
     ghost use Rattle.core_rows.specs.Steps.{first_of};
@@ -182,9 +200,23 @@ impl<'a> Register<'a> {
             rows: Vec::new(alloc),
             filed: IndexMap::new(alloc),
             counts: IndexMap::new(alloc),
+            instruments: Vec::new(alloc),
             heading: heading_of(&[]),
             ended: false,
         }
+    }
+
+    /// The filed records with one more, unless one is filed under its key.
+    fn with_filed(
+        mut filed: IndexMap<Key<'a>, Filed<'a>>,
+        key: Key<'a>,
+        more: Filed<'a>,
+    ) -> Result<IndexMap<Key<'a>, Filed<'a>>, AllocError>
+        ensures { IfOk result
+            (FilesOnce ⟦<Key<'static> as PartialEq>⟧.eq filed.entry key.entry more.entry) }
+    {
+        filed.entry(key)?.or_insert(more);
+        Ok(filed)
     }
 
     /// The records with one more of this kind, whose prices may have been read.
@@ -200,26 +232,24 @@ impl<'a> Register<'a> {
     {
         let Register {
             mut rows,
-            mut filed,
+            filed,
             mut counts,
+            instruments,
             mut heading,
             ended,
         } = self;
         let last = Row { kind, fields: row };
         rows.push(last)?;
+        let instruments = with_instrument(instruments, &last)?;
         if rows.len() <= 2 {
             heading = heading_of(&rows);
         }
         let key = key_of(kind, row);
-        if !filed.contains_key(&key) {
-            filed.insert(
-                key,
-                Filed {
-                    fields: row,
-                    prices,
-                },
-            )?;
-        }
+        let more = Filed {
+            fields: row,
+            prices,
+        };
+        let filed = Register::with_filed(filed, key, more)?;
         if most_records(kind).is_some() {
             let group = group_of(kind, row);
             let count = counts.get(&group).copied().unwrap_or(0);
@@ -229,6 +259,7 @@ impl<'a> Register<'a> {
             rows,
             filed,
             counts,
+            instruments,
             heading,
             ended: ends(ended, &last),
         })
@@ -263,28 +294,38 @@ impl<'a> Register<'a> {
         self.rows[1].fields
     }
 
-    /// The first record of a kind with this key, as it is filed.
-    pub(crate) fn filed_at<'s>(
-        &'s self,
-        kind: RecordKind,
-        first: &'s [u8],
-        second: &'s [u8],
-    ) -> Option<&'s Filed<'a>>
-        ensures { option_map (λ f. f.now.fields.now) result
-            ≡ filed kind first.now second.now self.now }
-    {
-        self.filed.get(&Key {
-            kind,
-            first,
-            second,
-        })
-    }
-
     /// The first record of a kind with this key.
     pub(crate) fn find(&self, kind: RecordKind, first: &[u8], second: &[u8]) -> Option<&'a Fields>
         ensures { option_map (λ r. r.now) result ≡ filed kind first.now second.now self.now }
     {
-        Some(self.filed_at(kind, first, second)?.fields)
+        let key = Key {
+            kind,
+            first,
+            second,
+        };
+        Some(self.filed.get(&key)?.fields)
+    }
+
+    /// The prices of an instrument in a scenario, none where no record states them. They leave the register.
+    pub(crate) fn take_prices(
+        &mut self,
+        alloc: Global,
+        scenario: &'a [u8],
+        instrument: &'a [u8],
+    ) -> Result<Vec<i64>, AllocError>
+        ensures kept { self.new ≡ self.old }
+        ensures prices { IfOk result (λ v.
+            v.items ≡ prices_of self.old scenario.now instrument.now) }
+    {
+        let key = Key {
+            kind: RecordKind::Path,
+            first: scenario,
+            second: instrument,
+        };
+        match self.filed.get_mut(&key) {
+            Some(path) => path.take_prices(alloc),
+            None => Ok(Vec::new(alloc)),
+        }
     }
 
     /// Whether there is a record of a kind with this key.
@@ -402,14 +443,7 @@ impl<'a> Register<'a> {
     fn has_paths(&self, scenario: &Fields) -> bool
         ensures { result ≡ list_all (has_path self.now scenario.now) (of_kind Instrument self.now) }
     {
-        for row in &self.rows {
-            if row.is_of(RecordKind::Instrument)
-                && !self.has(RecordKind::Path, scenario.word(1), row.fields.word(1))
-            {
-                return false;
-            }
-        }
-        true
+        self.instruments.iter().all(|row| self.has(RecordKind::Path, scenario.word(1), row.word(1)))
     }
 
     /// Whether each scenario has the paths of all instruments.
@@ -430,14 +464,9 @@ impl<'a> Register<'a> {
     fn has_limits(&self) -> bool
         ensures { result ≡ list_all (has_limit self.now) (of_kind Instrument self.now) }
     {
-        for row in &self.rows {
-            if row.is_of(RecordKind::Instrument)
-                && !self.has(RecordKind::Limit, row.fields.word(1), b"")
-            {
-                return false;
-            }
-        }
-        true
+        self.instruments
+            .iter()
+            .all(|row| self.has(RecordKind::Limit, row.word(1), b""))
     }
 
     /// Whether there is a scenario.

@@ -149,22 +149,6 @@ fn tiers_of(
     Ok(tiers)
 }
 
-/// The prices of an instrument in a scenario, none where no record states them.
-fn prices_of(
-    alloc: Global,
-    register: &Register,
-    scenario: &Fields,
-    instrument: &Fields,
-) -> Result<Vec<i64>, AllocError>
-    ensures { IfOk result (λ v.
-        v.items ≡ prices_of register.now (field scenario.now 1) (field instrument.now 1)) }
-{
-    match register.filed_at(RecordKind::Path, scenario.word(1), instrument.word(1)) {
-        Some(path) => path.prices(alloc),
-        None => Ok(Vec::new(alloc)),
-    }
-}
-
 /// The holidays of a market, in order.
 fn holidays_of(alloc: Global, holidays: &[&Fields], market: &[u8]) -> Result<Vec<Date>, AllocError>
     ensures { IfOk result (λ v.
@@ -267,33 +251,35 @@ fn depth(
     Ok(depth)
 }
 
-/// The prices of each instrument in a scenario.
-fn paths(
+/// The prices of each instrument in a scenario, which leave the register.
+fn paths<'a>(
     alloc: Global,
-    register: &Register,
-    scenario: &Fields,
-    instruments: &[&Fields],
+    register: &mut Register<'a>,
+    scenario: &'a Fields,
+    instruments: &[&'a Fields],
 ) -> Result<Vec<Vec<i64>>, AllocError>
-    ensures { IfOk result (λ v. map (λ path. path.items) v.items
-        ≡ map (prices_of register.now (field scenario.now 1))
+    ensures kept { register.new ≡ register.old }
+    ensures prices { IfOk result (λ v. map (λ path. path.items) v.items
+        ≡ map (prices_of register.old (field scenario.now 1))
         (names_in (map (λ r. r.now) instruments.now))) }
 {
     let mut paths = Vec::with_capacity(alloc, instruments.len())?;
     for row in instruments {
-        paths.push(prices_of(alloc, register, scenario, row)?)?;
+        paths.push(register.take_prices(alloc, scenario.word(1), row.word(1))?)?;
     }
     Ok(paths)
 }
 
-/// The prices of each scenario and instrument.
-fn prices(
+/// The prices of each scenario and instrument, which leave the register.
+fn prices<'a>(
     alloc: Global,
-    register: &Register,
-    scenarios: &[&Fields],
-    instruments: &[&Fields],
+    register: &mut Register<'a>,
+    scenarios: &[&'a Fields],
+    instruments: &[&'a Fields],
 ) -> Result<Vec<Vec<Vec<i64>>>, AllocError>
-    ensures { IfOk result (λ v. map (λ paths. map (λ path. path.items) paths.items) v.items
-        ≡ map (λ k. map (prices_of register.now k) (names_in (map (λ r. r.now) instruments.now)))
+    ensures kept { register.new ≡ register.old }
+    ensures prices { IfOk result (λ v. map (λ paths. map (λ path. path.items) paths.items) v.items
+        ≡ map (λ k. map (prices_of register.old k) (names_in (map (λ r. r.now) instruments.now)))
         (names_in (map (λ r. r.now) scenarios.now))) }
 {
     let mut prices = Vec::with_capacity(alloc, scenarios.len())?;
@@ -533,10 +519,12 @@ fn book_scenarios(alloc: Global, register: &Register) -> Result<Vec<Name>, Alloc
     scenarios(alloc, &rows)
 }
 
-/// The prices of each scenario and instrument of a register.
-fn book_prices(alloc: Global, register: &Register) -> Result<Vec<Vec<Vec<i64>>>, AllocError>
-    ensures { IfOk result (λ v. map (λ paths. map (λ path. path.items) paths.items) v.items
-        ≡ (case_of register.now).prices) }
+/// The prices of each scenario and instrument of a register, which leave it.
+fn book_prices(alloc: Global, register: &mut Register) -> Result<Vec<Vec<Vec<i64>>>, AllocError>
+    ensures kept { register.new ≡ register.old }
+    ensures prices { IfOk result (λ v.
+        map (λ paths. map (λ path. path.items) paths.items) v.items
+        ≡ (case_of register.old).prices) }
 {
     let scenario_rows = rows_of_kind(alloc, register, RecordKind::Scenario)?;
     let instrument_rows = rows_of_kind(alloc, register, RecordKind::Instrument)?;
@@ -562,9 +550,15 @@ fn book_cash(alloc: Global, register: &Register, last: u8) -> Result<Vec<i64>, A
     cash(alloc, &rows, last)
 }
 
-/// The book that the records of a register state.
-pub(crate) fn state_book(alloc: Global, register: &Register) -> Result<Book, AllocError>
-    requires { IsWhole register.now }
+/// The book that the records of a register state, where these are its prices.
+fn book_with(
+    alloc: Global,
+    register: &Register,
+    prices: Vec<Vec<Vec<i64>>>,
+) -> Result<Book, AllocError>
+    requires whole { IsWhole register.now }
+    requires prices { map (λ paths. map (λ path. path.items) paths.items) prices.items
+        ≡ (case_of register.now).prices }
     ensures { IfOk result (λ book. book_view book ≡ case_of register.now) }
 {
     let house = register.house();
@@ -580,8 +574,17 @@ pub(crate) fn state_book(alloc: Global, register: &Register) -> Result<Book, All
         pools: book_pools(alloc, register)?,
         members: book_members(alloc, register)?,
         scenarios: book_scenarios(alloc, register)?,
-        prices: book_prices(alloc, register)?,
+        prices,
         lines: book_lines(alloc, register)?,
         cash: book_cash(alloc, register, last)?,
     })
+}
+
+/// The book that the records of a register state.
+pub(crate) fn state_book(alloc: Global, mut register: Register) -> Result<Book, AllocError>
+    requires { IsWhole register }
+    ensures { IfOk result (λ book. book_view book ≡ case_of register.entry) }
+{
+    let prices = book_prices(alloc, &mut register)?;
+    book_with(alloc, &register, prices)
 }

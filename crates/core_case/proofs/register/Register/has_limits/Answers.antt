@@ -1,30 +1,16 @@
--- Each instrument is seen once.
-use Rattle.std.proofs.Common.{◌∙◌, sym, ap, [], map, is_some}
-use Rattle.core_case.specs.Kinds.{is_kind}
-use Rattle.core_case.specs.Faults.{has_limit, filed}
-use Rattle.core_case.specs.declared.kinds.RecordKind.TheVariants.{Instrument, Limit}
-use Rattle.core_case.proofs.FiledRows.{passed-more, passed-other, passed-test, passed-all, failed-at}
+use Rattle.std.proofs.Common.{rules, tests, ◌∙◌, sym, ap, map}
+use Rattle.std.specs.List.{list_all}
+use Rattle.std.proofs.lemmas.List.Folds.{list_all-map}
+use Rattle.std.proofs.lemmas.Iterator.{YieldsList-from_slice}
+use Rattle.std.proofs.lemmas.Iterator.Search.{all_from_yields_List}
+use Rattle.core_case.specs.Faults.{has_limit, of_kind}
+use Rattle.core_case.specs.declared.kinds.RecordKind.TheVariants.{Instrument}
 use Rattle.core_case.proofs.register.Register.has_limits.Goals as goal
-use Rattle.core_case.proofs.register.Register.has_limits.Goals.{else-is_of-via-then-is_of+else-not-has, else-is_of-via-else-is_of}
-
-pub returns-then-not-has : goal.returns-then-not-has
-returns-then-not-has c =
-    failed-at (is_kind Instrument) (has_limit c.args.self.now) c.deref-row-items.result.now c.loop-row.row-index c.row-item.result c.args.self.now c.loop-row-test.true c.row-item.is
-    (sym c.is_of.ensures ∙ c.if-is_of.true)
-    (ap (λ word. is_some (filed Limit word [] c.args.self.now)) (sym c.word.ensures) ∙ sym c.has.ensures ∙ c.if-not-has.true)
-    (ap (map (λ r. r.fields.now)) c.deref-row-items.ensures.value ∙ c.self.view_is)
-
-pub loop-row-preserved : goal.loop-row-preserved
-loop-row-preserved c =
-    passed-more (is_kind Instrument) (has_limit c.args.self.now) c.deref-row-items.result.now c.loop-row.row-index c.row-item.result c.loop-row.invariant c.loop-row-test.true c.row-item.is
-    (elim c.else-is_of.branch [
-      | else-is_of-via-then-is_of+else-not-has w ↦
-          passed-test (is_kind Instrument) (has_limit c.args.self.now) c.row-item.result.fields.now
-          (ap (λ word. is_some (filed Limit word [] c.args.self.now)) (sym w.word.ensures) ∙ sym w.has.ensures ∙ w.if-not-has.false)
-      | else-is_of-via-else-is_of w ↦ passed-other (is_kind Instrument) (has_limit c.args.self.now) c.row-item.result.fields.now (sym c.is_of.ensures ∙ w.if-is_of.false)
-    ])
 
 pub returns : goal.returns
 returns c =
-    passed-all (is_kind Instrument) (has_limit c.args.self.now) c.deref-row-items.result.now c.loop-row.row-index c.args.self.now c.loop-row.invariant c.loop-row-test.false
-    (ap (map (λ r. r.fields.now)) c.deref-row-items.ensures.value ∙ c.self.view_is)
+    let test = has_limit c.args.self.now in
+    all_from_yields_List (λ r. test r.now) _ _ c.all.result c.all.ensures.ran (YieldsList-from_slice c.deref.result.now cc) (λ x b q k. search (rules, tests))
+    ∙ sym (list_all-map test (λ r. r.now) c.deref.result.now)
+    ∙ ap (λ rows. list_all test (map (λ r. r.now) rows)) c.deref.ensures.value
+    ∙ ap (list_all test) (c.self.invariant.instruments_are ∙ ap (of_kind Instrument) c.self.view_is)

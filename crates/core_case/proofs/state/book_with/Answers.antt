@@ -2,12 +2,12 @@ use Rattle.std.proofs.Common.{◌≡◌, ◌≤◌, ◌∙◌, ap, arith, rules}
 use Rattle.core_case.specs.Kinds.{natural_in}
 use Rattle.core_case.specs.Faults.{heading_of}
 use Rattle.core_case.specs.Stated.{day_in}
-use Rattle.core_case.proofs.state.state_book.Goals as goal
+use Rattle.core_case.proofs.state.book_with.Goals as goal
 
 pub overflow_cast-last : goal.overflow_cast-last
 overflow_cast-last c =
     let last : c.natural_in-last.result ≡ (heading_of c.args.register.now).last = c.natural_in-last.ensures.value ∙ ap (λ r. natural_in r 3) c.house-house.ensures in
-    let small : (heading_of c.args.register.now).last ≤ 40 = c.requires.kept.last.1 in
+    let small : (heading_of c.args.register.now).last ≤ 40 = c.requires.whole.kept.last.1 in
     search (rules, arith)
 
 pub book_cash-requires : goal.book_cash-requires
@@ -29,7 +29,7 @@ returns c =
       pools = c.in_ok-book_pools.ensures i;
       members = c.in_ok-book_members.ensures i;
       scenarios = c.in_ok-book_scenarios.ensures i;
-      prices = c.in_ok-book_prices.ensures i;
+      prices = c.requires.prices i;
       lines = c.in_ok-book_lines.ensures i;
       cash = c.in_ok-book_cash.ensures i;
     }
