@@ -20,7 +20,7 @@ use Rattle.core_dict.specs.declared.row.Slot.{Slot}
 use Rattle.core_dict.proofs.Choice.{at_equal, at_other}
 use Rattle.core_dict.proofs.Holding.{have_variables}
 use Rattle.core_dict.proofs.Outside.{same_from_Agree, IsZeroOutside_pivot}
-use Rattle.core_dict.proofs.Reading.{zero_less}
+use Rattle.fractions.proofs.LessTimes.{zero_less}
 use Rattle.core_dict.proofs.Variables.{HasVariables_pivot}
 
 -- a fraction is 0 or not

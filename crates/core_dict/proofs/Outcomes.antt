@@ -1,12 +1,11 @@
 -- Results: what holds of them at once, and what holds of their numbers.
 use Rattle.std.proofs.Common.{◌≡◌, ◌≢◌, ℕ, ◌<◌, true, false, Result, Ok, Err, IfOk, OnOk, OnErr, ap₂, subst, inl}
 use Rattle.fractions.specs.Fraction.{Fraction, zero_q, ◌-ℚ◌, ◌*ℚ◌}
-use Rattle.fractions.specs.Leaves.{OverLeaves}
-use Rattle.core_dict.specs.Leaving.{LessTimesLeaves}
+use Rattle.fractions.specs.Leaves.{OverLeaves, LessTimesLeaves}
 use Rattle.core_dict.specs.Rows.{width, entry_of, divided_entry, EntriesLeave, Quotient, Less}
 use Rattle.core_dict.specs.Rows.{RowLeaves, Entries, Value, OwnRowLeaves, Entry, OwnValue}
 use Rattle.core_dict.specs.declared.row.Row.{Row}
-use Rattle.core_dict.proofs.Reading.{no_leaving}
+use Rattle.fractions.proofs.LessTimes.{no_leaving}
 
 -- what holds anyway
 pub on_err : {T F : Type 0} (r : Result T F) (P : Type 0) → P → OnErr r P

@@ -1,7 +1,7 @@
 -- What a pivot's steps on the rows say of its dictionary.
 use Rattle.std.proofs.Common.{◌≡◌, ◌≢◌, ℕ, ◌<◌, cond, eqb, sym, ap, ap₂, ◌∙◌, subst}
 use Rattle.fractions.specs.Fraction.{Fraction, ◌-ℚ◌, ◌*ℚ◌, ◌/ℚ◌, neg_ℚ}
-use Rattle.fractions.specs.Leaves.{OverLeaves}
+use Rattle.fractions.specs.Leaves.{OverLeaves, LessTimesLeaves}
 use Rattle.core_dict.specs.Dictionary.{Dictionary}
 use Rattle.core_dict.specs.Pivot.{own_entry, own_value, other_entry, other_value}
 use Rattle.core_dict.specs.Leaving as leaving
@@ -86,7 +86,7 @@ module _ (most : ℕ) (d : Dictionary) (r s : ℕ) where
           (subst (λ (c : ℕ → Fraction). EntriesLeave most (width x) p s c (entry_of read x)) (sym f)
           (leaves_entries (width x) (entry_of read x) (d.entry i) n e h))
 
-      pub leaves_value : leaving.LessTimesLeaves most (d.value i) (d.entry i s) (own_value d r s)
+      pub leaves_value : LessTimesLeaves most (d.value i) (d.entry i s) (own_value d r s)
           → RowLeaves most read p s y x
       leaves_value h = Value (leaves_same (sym v) (ap (λ (c : ℕ → Fraction). c s) (sym e)) (sym u) h)
 
@@ -105,7 +105,7 @@ module _ (most : ℕ) (d : Dictionary) (r s : ℕ) where
       → (OverLeaves most (d.value r) (d.entry r s) → ⊥)
       → ((i : ℕ) → i < d.rows → i ≢ r → leaving.OtherLeaves most d r s (d.entry i s) (d.entry i) → ⊥)
       → ((i : ℕ) → i < d.rows → i ≢ r
-      → leaving.LessTimesLeaves most (d.value i) (d.entry i s) (own_value d r s) → ⊥)
+      → LessTimesLeaves most (d.value i) (d.entry i s) (own_value d r s) → ⊥)
       → (leaving.OtherLeaves most d r s (d.cost s) d.cost → ⊥) → leaving.PivotLeaves most d r s → ⊥
   no_pivot_leaves a b c e f (leaving.OwnEntry j l h) = a j l h
   no_pivot_leaves a b c e f (leaving.OwnValue h) = b h

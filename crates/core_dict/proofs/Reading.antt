@@ -4,11 +4,10 @@ use Rattle.std.proofs.Common.{length, get_or, set, sym, ap, refl, ◌∙◌, sub
 use Rattle.std.proofs.Math.Seq.{get_or-append_seam}
 use Rattle.std.proofs.lemmas.Bool.{cases_lt}
 use Rattle.std.proofs.lemmas.List.{get_or-set_same, get_or-set_other, get_or_append_left, length-set}
-use Rattle.algebra.proofs.Ring.{v, ◌⊕◌, ◌⊗◌, ⊖, 𝟎, ring}
-use Rattle.fractions.specs.Fraction.{Fraction, zero_q, ◌-ℚ◌, ◌*ℚ◌, neg_ℚ}
+use Rattle.algebra.proofs.Ring.{v, ◌⊗◌, 𝟎, ring}
+use Rattle.fractions.specs.Fraction.{Fraction, zero_q, ◌*ℚ◌}
 use Rattle.fractions.specs.Leaves.{OverLeaves}
 use Rattle.fractions.proofs.Field.{field}
-use Rattle.core_dict.specs.Leaving.{LessTimesLeaves, Product, Difference}
 use Rattle.core_dict.specs.Rows.{fraction_at}
 use Rattle.core_dict.specs.DenseLaw.{fraction_here, fraction_past}
 
@@ -19,26 +18,6 @@ zero-times b = ring field (b ∷ []) (𝟎 ⊗ v 0) 𝟎 refl
 -- 0 divided is itself
 pub zero_divided : (a b : Fraction) → a ≡ zero_q → a ≡ a *ℚ b
 zero_divided a b e = e ∙ sym (zero-times b) ∙ ap (λ (y : Fraction). y *ℚ b) (sym e)
-
--- nothing is taken off by a 0
-pub less_zero : (a q b : Fraction) → b ≡ zero_q → a ≡ a -ℚ q *ℚ b
-less_zero a q b e =
-    ring field (a ∷ q ∷ []) (v 0) (v 0 ⊕ ⊖ (v 1 ⊗ 𝟎)) refl ∙ ap (λ (y : Fraction). a -ℚ q *ℚ y) (sym e)
-
-pub zero_less : (a q b : Fraction) → q ≡ zero_q → a ≡ a -ℚ q *ℚ b
-zero_less a q b e =
-    ring field (a ∷ b ∷ []) (v 0) (v 0 ⊕ ⊖ (𝟎 ⊗ v 1)) refl ∙ ap (λ (y : Fraction). a -ℚ y *ℚ b) (sym e)
-
--- minus a product with 0
-neg_product : (q b : Fraction) → (q ≡ zero_q) ⊎ (b ≡ zero_q) → neg_ℚ (q *ℚ b) ≡ zero_q
-neg_product q b (inl e) = ap (λ (y : Fraction). neg_ℚ (y *ℚ b)) e ∙ ring field (b ∷ []) (⊖ (𝟎 ⊗ v 0)) 𝟎 refl
-neg_product q b (inr e) = ap (λ (y : Fraction). neg_ℚ (q *ℚ y)) e ∙ ring field (q ∷ []) (⊖ (v 0 ⊗ 𝟎)) 𝟎 refl
-
--- and such a product leaves nowhere
-pub no_leaving : (most : ℕ) (a q b : Fraction) → (q ≡ zero_q) ⊎ (b ≡ zero_q) → LessTimesLeaves most a q b → ⊥
-no_leaving most a q b (inl e) (Product h) = h.left_not_zero e
-no_leaving most a q b (inr e) (Product h) = h.right_not_zero e
-no_leaving most a q b e (Difference h) = h.right_not_zero (neg_product q b e)
 
 -- what does not leave does not leave as it is called elsewhere
 pub not_left : (most : ℕ) (a b x y : Fraction) → a ≡ x → b ≡ y → (OverLeaves most a b → false ≡ true)

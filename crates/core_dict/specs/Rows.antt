@@ -2,8 +2,7 @@
 use Rattle.std.specs.Prelude.{◌≡◌, ◌≢◌, ℕ, ◌<◌, ◌==◌, List, length, map, get_or, if◌then◌else◌}
 use Rattle.std.specs.List.{AllWithin}
 use Rattle.fractions.specs.Fraction.{Fraction, zero_q, one_q, ◌-ℚ◌, ◌*ℚ◌, ◌/ℚ◌, neg_ℚ, whole}
-use Rattle.fractions.specs.Leaves.{OverLeaves}
-use Rattle.core_dict.specs.Leaving.{LessTimesLeaves}
+use Rattle.fractions.specs.Leaves.{OverLeaves, LessTimesLeaves}
 use Rattle.core_dict.specs.Programme.{ProgrammeView, height, entry, bound}
 use Rattle.core_dict.specs.declared.row.Row.{Row}
 use Rattle.core_dict.specs.declared.row.Slot.{Slot}

@@ -2,8 +2,7 @@
 ghost use Rattle.std.specs.Prelude.{◌≡◌, ◌≢◌, ◌↔◌, ℕ, ◌<◌, ◌==◌, if◌then◌else◌, IfOk, IsErr, IsTrue, OnOk, OnErr, length, map, get_or, unsigned_abs};
 ghost use Rattle.std.specs.List.{AllWithin};
 ghost use Rattle.fractions.specs.Fraction.{zero_q, ◌-ℚ◌, ◌*ℚ◌, ◌/ℚ◌};
-ghost use Rattle.fractions.specs.Leaves.{OverLeaves};
-ghost use Rattle.core_dict.specs.Leaving.{LessTimesLeaves};
+ghost use Rattle.fractions.specs.Leaves.{OverLeaves, LessTimesLeaves};
 ghost use Rattle.core_dict.specs.Rows.{fraction_at, width, entry_of, divided_entry, entry_after};
 ghost use Rattle.core_dict.specs.Rows.{IsOwnAfter, OwnRowLeaves, EntriesLeave, IsAfter, RowLeaves};
 ghost use Rattle.core_dict.specs.Rows.{IsWide, AreWide, IsMade, IsExchanged};
@@ -29,19 +28,6 @@ fn divided<E: Exact>(a: E, p: E) -> Result<E, Left>
         return Ok(a);
     }
     a.over(p)
-}
-
-// a - q b, which is a where b is 0.
-#[inline(always)]
-fn less_times<E: Exact>(a: E, q: E, b: E) -> Result<E, Left>
-    ensures exact { IfOk result (λ x. E.value x ≡ E.value a -ℚ E.value q *ℚ E.value b) }
-    ensures left { IsErr result
-        ↔ LessTimesLeaves (unsigned_abs E.MOST) (E.value a) (E.value q) (E.value b) }
-{
-    if is_zero(b) {
-        return Ok(a);
-    }
-    a.minus(q.times(b)?)
 }
 
 // The entries of the pivot's own row afterwards.
@@ -89,7 +75,7 @@ fn other_entry<E: Exact>(
     if j == col {
         return Ok(turned);
     }
-    less_times(before[j], before[col], own[j])
+    before[j].less_times(before[col], own[j])
 }
 
 // The entries of another row, or the costs, afterwards.
@@ -163,7 +149,7 @@ fn other_row<E: Exact>(
         col,
         &mut after.entries,
     )?;
-    after.value = less_times(before.value, before.entries[col], own.value)?;
+    after.value = before.value.less_times(before.entries[col], own.value)?;
     Ok(())
 }
 

@@ -3,9 +3,9 @@ use Rattle.std.proofs.Common.{◌≡◌, ◌≢◌, ℕ, suc, ◌<◌, ◌≤◌
 use Rattle.std.proofs.Common.{List, [], length, get_or, sym, ap, ◌∙◌, subst, arith}
 use Rattle.std.proofs.lemmas.Bool.{cases_eq, cases_lt}
 use Rattle.fractions.specs.Fraction.{Fraction, zero_q}
-use Rattle.core_dict.specs.Leaving.{LessTimesLeaves}
+use Rattle.fractions.specs.Leaves.{LessTimesLeaves}
 use Rattle.core_dict.proofs.Choice.{at_other}
-use Rattle.core_dict.proofs.Reading.{less_zero, no_leaving}
+use Rattle.fractions.proofs.LessTimes.{less_zero, no_leaving}
 use Rattle.core_sparse.specs.Items.{columns, col_at, number, IsRising, IsKept, Stands}
 use Rattle.core_sparse.specs.Steps.{merged, IsCopied}
 use Rattle.core_sparse.specs.SparseLaw.{number_none}

@@ -3,12 +3,11 @@
 use Rattle.std.proofs.Common.{◌≡◌, ◌≢◌, ℕ, ◌<◌, inl, List, Result, Ok, Err, cond, eqb, sym, ap, ap₂, ◌∙◌, subst}
 use Rattle.std.specs.Result.{IsErrAnd}
 use Rattle.fractions.specs.Fraction.{Fraction, zero_q, ◌-ℚ◌, ◌*ℚ◌, ◌/ℚ◌, neg_ℚ}
-use Rattle.fractions.specs.Leaves.{OverLeaves}
-use Rattle.core_dict.specs.Leaving.{LessTimesLeaves}
+use Rattle.fractions.specs.Leaves.{OverLeaves, LessTimesLeaves}
 use Rattle.core_dict.specs.Rows.{EntriesLeave, Less}
 use Rattle.core_dict.proofs.Outcomes.{leaves_same, no_entry}
 use Rattle.core_sparse.specs.Items.{number, IsKept}
-use Rattle.core_dict.proofs.Reading.{no_leaving}
+use Rattle.fractions.proofs.LessTimes.{no_leaving}
 use Rattle.core_sparse.specs.Steps.{merged, entry_of, AreAfter, RowLeaves, Entries, Value}
 use Rattle.core_sparse.specs.declared.row.Item.{Item}
 use Rattle.core_sparse.specs.declared.row.Row.{Row}

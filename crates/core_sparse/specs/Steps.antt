@@ -1,8 +1,7 @@
 -- What the steps of a pivot make of the rows, and when one of their operations leaves a type.
 use Rattle.std.specs.Prelude.{◌≡◌, ◌≢◌, ℕ, ◌<◌, ◌≤◌, ◌==◌, List, length, map, get_or, if◌then◌else◌}
 use Rattle.fractions.specs.Fraction.{Fraction, zero_q, one_q, ◌-ℚ◌, ◌*ℚ◌, ◌/ℚ◌, whole}
-use Rattle.fractions.specs.Leaves.{OverLeaves}
-use Rattle.core_dict.specs.Leaving.{LessTimesLeaves}
+use Rattle.fractions.specs.Leaves.{OverLeaves, LessTimesLeaves}
 use Rattle.core_dict.specs.Programme.{ProgrammeView, height, entry, bound}
 use Rattle.core_dict.specs.Rows.{divided_entry, entry_after, EntriesLeave}
 use Rattle.core_sparse.specs.Items.{number, columns, col_at, value_at, IsKept, Stands}

@@ -20,8 +20,24 @@ pub fn column<E: Exact>(items: &[Item<E>], place: usize, past: usize) -> usize
     }
 }
 
-/// The place of the first item that does not stand before a column.
+/// The place of the first item that does not stand before a column. Most columns stand before the
+/// first item or behind the last one.
+#[inline(always)]
 pub fn place_of<E: Exact>(items: &[Item<E>], col: usize) -> usize
+    requires { IsRising items.now }
+    ensures { Stands items.now col result }
+{
+    if col <= column(items, 0, col) {
+        return 0;
+    }
+    if ends_before(items, items.len(), col) {
+        return items.len();
+    }
+    place_among(items, col)
+}
+
+// The same by halves.
+fn place_among<E: Exact>(items: &[Item<E>], col: usize) -> usize
     requires { IsRising items.now }
     ensures { Stands items.now col result }
 {

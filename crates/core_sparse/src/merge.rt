@@ -2,14 +2,13 @@
 ghost use Rattle.std.specs.Prelude.{◌≡◌, ◌≢◌, ◌↔◌, ℕ, ◌<◌, ◌≤◌, [], false, if◌then◌else◌};
 ghost use Rattle.std.specs.Prelude.{OnOk, Err, IfOk, IsErr, unsigned_abs};
 ghost use Rattle.fractions.specs.Fraction.{zero_q, ◌-ℚ◌, ◌*ℚ◌};
-ghost use Rattle.core_dict.specs.Leaving.{LessTimesLeaves};
+ghost use Rattle.fractions.specs.Leaves.{LessTimesLeaves};
 ghost use Rattle.core_sparse.specs.Items.{number as number_of, IsKept, Stands};
 ghost use Rattle.core_sparse.specs.Steps.{merged, AreBefore, IsCopied};
 
 use crate::fault::Fault;
 use crate::find::{column, take};
 use crate::keep::keep;
-use crate::numbers::less_times;
 use crate::row::Item;
 use exact_frac::{Exact, Left};
 use std::alloc::AllocError;
@@ -25,7 +24,7 @@ fn number_after<E: Exact>(a: E, b: E, q: E, turned: E, is_pivot: bool) -> Result
     if is_pivot {
         return Ok(turned);
     }
-    less_times(a, q, b)
+    a.less_times(q, b)
 }
 
 // Puts the items of a row that stand before a column behind others, for a walk that stands at the

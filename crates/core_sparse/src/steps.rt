@@ -2,8 +2,7 @@
 ghost use Rattle.std.specs.Prelude.{◌≡◌, ◌≢◌, ◌↔◌, ℕ, ◌<◌, IfOk, IsErr, IsTrue, OnOk, Err};
 ghost use Rattle.std.specs.Prelude.{length, map, get_or, unsigned_abs};
 ghost use Rattle.fractions.specs.Fraction.{zero_q, ◌-ℚ◌, ◌*ℚ◌, ◌/ℚ◌};
-ghost use Rattle.fractions.specs.Leaves.{OverLeaves};
-ghost use Rattle.core_dict.specs.Leaving.{LessTimesLeaves};
+ghost use Rattle.fractions.specs.Leaves.{OverLeaves, LessTimesLeaves};
 ghost use Rattle.core_dict.specs.Rows.{EntriesLeave};
 ghost use Rattle.core_sparse.specs.Items.{number as number_of, IsKept, IsRising};
 ghost use Rattle.core_sparse.specs.Steps.{entry_of, AreKept, AreAfter, IsAfter, RowLeaves};
@@ -12,7 +11,7 @@ ghost use Rattle.core_sparse.specs.Steps.{IsMade, IsExchanged};
 use crate::fault::Fault;
 use crate::find::{number, place_from, place_of, take};
 use crate::merge::merge;
-use crate::numbers::{divided, is_zero, less_times};
+use crate::numbers::{divided, is_zero};
 use crate::row::{Item, Row, Slot};
 use exact_frac::Exact;
 use std::mem;
@@ -77,7 +76,7 @@ fn other_row<E: Exact>(
         cols,
         &mut after.items,
     )?;
-    after.value = less_times(before.value, q, own.value)?;
+    after.value = before.value.less_times(q, own.value)?;
     Ok(())
 }
 

@@ -1,5 +1,5 @@
 // The operations on fractions of 64 bits. No number of theirs is wider.
-ghost use Rattle.std.specs.Prelude.{◌≡◌, ◌≢◌, ◌≤◌, ◌<◌, ◌*ℤ◌, ◌↔◌, IfOk, IsErr, pos, unsigned_abs};
+ghost use Rattle.std.specs.Prelude.{◌≡◌, ◌≢◌, ◌≤◌, ◌<◌, ◌*◌, ◌*ℤ◌, ◌↔◌, IfOk, IsErr, IsTrue, pos, unsigned_abs};
 ghost use Rattle.fractions.specs.Gcd.{gcd as gcd_of};
 ghost use Rattle.fractions.specs.Fraction.{reduce, zero_q, ◌+ℚ◌, ◌*ℚ◌};
 ghost use Rattle.fractions.specs.Leaves.{TimesLeaves, PlusLeaves};
@@ -69,6 +69,34 @@ fn integer_product(q: Frac64, r: Frac64) -> Result<Frac64, Left>
 {
     let number = numbers_product(q.numerator(), r.numerator())?;
     Ok(Frac64::of_integer(number))
+}
+
+/// Whether f is the product, where the numbers of both sides crosswise are at most 2^62, and false
+/// where one is above. It takes no greatest common divisor.
+#[inline(always)]
+pub fn is_product(f: Frac64, q: Frac64, r: Frac64) -> bool
+    ensures { IsTrue result → value64 f ≡ value64 q *ℚ value64 r }
+{
+    match crosswise_sides(f, q, r) {
+        Ok((left, right)) => left == right,
+        Err(Left) => false,
+    }
+}
+
+// The numerator of f times the product of the denominators, and the product of the numerators
+// times the denominator of f.
+#[inline(always)]
+fn crosswise_sides(f: Frac64, q: Frac64, r: Frac64) -> Result<(i64, i64), Left>
+    ensures left { IfOk result (λ s. s.0
+        ≡ (value64 f).num *ℤ pos ((value64 q).den * (value64 r).den)) }
+    ensures right { IfOk result (λ s. s.1
+        ≡ ((value64 q).num *ℤ (value64 r).num) *ℤ pos (value64 f).den) }
+{
+    let den = product_within(q.denominator(), r.denominator())?;
+    let num = numbers_product(q.numerator(), r.numerator())?;
+    let left = numbers_product(f.numerator(), den as i64)?;
+    let right = numbers_product(num, f.denominator() as i64)?;
+    Ok((left, right))
 }
 
 /// The exact sum, or Left exactly where it leaves.

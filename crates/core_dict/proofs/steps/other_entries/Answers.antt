@@ -1,6 +1,6 @@
 use Rattle.std.proofs.Common.{◌≡◌, ◌≢◌, ℕ, unsigned_abs, cond, eqb, sym, ap, ◌∙◌, refl, arith, below_more}
 use Rattle.fractions.specs.Fraction.{Fraction, neg_ℚ, ◌-ℚ◌, ◌*ℚ◌, ◌/ℚ◌}
-use Rattle.core_dict.specs.Leaving.{LessTimesLeaves}
+use Rattle.fractions.specs.Leaves.{LessTimesLeaves}
 use Rattle.core_dict.specs.Rows.{fraction_at, entry_after, Less}
 use Rattle.core_dict.proofs.Outcomes.{on_err, apart, no_entry}
 use Rattle.core_dict.proofs.Reading.{fraction_is, more_written, not_left}

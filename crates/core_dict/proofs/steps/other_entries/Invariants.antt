@@ -1,5 +1,5 @@
 use Rattle.std.proofs.Common.{◌≡◌, ◌≢◌, ℕ, ◌<◌, unsigned_abs}
-use Rattle.core_dict.specs.Leaving.{LessTimesLeaves}
+use Rattle.fractions.specs.Leaves.{LessTimesLeaves}
 use Rattle.core_dict.specs.Rows.{fraction_at, entry_after}
 use Rattle.core_dict.proofs.steps.other_entries.Given as goal
 

@@ -2,7 +2,7 @@ use Rattle.std.proofs.Common.{ℕ, ◌+◌, ◌-◌, ◌/◌, ◌<◌, ◌≤◌
 use Rattle.core_sparse.specs.Items.{col_at}
 use Rattle.core_sparse.proofs.Places.{col_is}
 use Rattle.core_sparse.proofs.Walks.{not_before}
-use Rattle.core_sparse.proofs.find.place_of.Goals as goal
+use Rattle.core_sparse.proofs.find.place_among.Goals as goal
 
 -- the middle is one of the places
 middle_in : (low high : ℕ) → low < high → (low ≤ low + (high - low) / 2) × (low + (high - low) / 2 < high)

@@ -1,6 +1,6 @@
 use Rattle.std.proofs.Common.{ℕ, ◌<◌, ◌≤◌, ◌-◌, length}
 use Rattle.core_sparse.specs.Items.{col_at}
-use Rattle.core_sparse.proofs.find.place_of.Given as goal
+use Rattle.core_sparse.proofs.find.place_among.Given as goal
 
 abbrev pub invariant-loop-low : goal.invariant-loop-low
 invariant-loop-low g l = record {
