@@ -4,8 +4,6 @@ use Rattle.fractions.specs.Gcd.{gcd}
 use Rattle.fractions.specs.Fraction.{zero_q}
 use Rattle.exact_frac.specs.Signed.{signed}
 use Rattle.exact_frac.specs.Value128.{value128}
-use Rattle.exact_frac.specs.Within.{IsWithin}
-use Rattle.exact_frac.proofs.Results.{zero_within}
 use Rattle.exact_frac.proofs.Product.{times_zero, top, bottom, bottom_positive, product_lowest, is_product}
 use Rattle.exact_frac.proofs.operations.crosswise_product.Goals as goal
 use Rattle.exact_frac.proofs.operations.crosswise_product.Goals.{then-is_zero-via-then-is_zero, then-is_zero-via-else-is_zero+then-is_zero-2}
@@ -17,9 +15,6 @@ returns-then-is_zero-clause-exact c =
       | then-is_zero-via-else-is_zero+then-is_zero-2 w ↦ inr (w.is_zero-else-is_zero.ensures.0 w.if-is_zero-2.true)
     ] in
     c.zero.ensures ∙ times_zero (value128 c.args.q) (value128 c.args.r) one
-
-pub returns-then-is_zero-clause-within : goal.returns-then-is_zero-clause-within
-returns-then-is_zero-clause-within c = subst (IsWithin c.args.most) (sym c.zero.ensures) (zero_within c.args.most c.requires.some)
 
 pub of_parts-requires-clause-positive : goal.of_parts-requires-clause-positive
 of_parts-requires-clause-positive c =
