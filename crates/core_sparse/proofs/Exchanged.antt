@@ -1,6 +1,6 @@
 -- A tableau whose room has been put in place is that of the pivot.
 use Rattle.std.proofs.Common.{◌≡◌, ◌≢◌, ℕ, ◌<◌, ◌⊎◌, inl, inr, List, [], ◌∷◌, length, get_or, set}
-use Rattle.std.proofs.Common.{sym, ap, ◌∙◌, subst, refl}
+use Rattle.std.proofs.Common.{Bool, true, false, if◌then◌else◌, sym, ap, ◌∙◌, subst, refl}
 use Rattle.std.proofs.lemmas.Bool.{cases_eq}
 use Rattle.std.proofs.lemmas.List.{get_or-set_same, get_or-set_other, length-set}
 use Rattle.algebra.proofs.Ring.{v, ◌⊗◌, ⊖, 𝟎, ring}
@@ -16,8 +16,8 @@ use Rattle.core_dict.proofs.Holding.{have_variables}
 use Rattle.core_dict.proofs.Outside.{same_from_Agree, IsZeroOutside_pivot}
 use Rattle.fractions.proofs.LessTimes.{zero_less}
 use Rattle.core_dict.proofs.Variables.{HasVariables_pivot}
-use Rattle.core_sparse.specs.Items.{number, IsRising, IsKept}
-use Rattle.core_sparse.specs.Steps.{entry_of, AreKept, IsExchanged}
+use Rattle.core_sparse.specs.Items.{number, IsKept}
+use Rattle.core_sparse.specs.Steps.{entry_of, AreKept, IsMarked, IsPut, IsExchanged}
 use Rattle.core_sparse.specs.Sparse.{rows_of, entry_of_row, value_of_row, tableau, IsPrepared}
 use Rattle.core_sparse.specs.SparseLaw.{slot_entries, slot_value, entries_at, value_of_at, tableau_outside}
 use Rattle.core_sparse.specs.declared.row.Item.{Item}
@@ -221,23 +221,33 @@ module _ {E : Type 0} (read : E → Fraction) (r s : ℕ) (xs : List (Slot E)) (
           cost = λ j l. cost_is j (subst (λ (m : ℕ). j < m) (length-set nonbasic s n) l);
         }
 
--- a row that gets other room rises as before
-pub rising_with : {E : Type 0} (read : E → Fraction) (n : ℕ) (xs : List (Slot E)) → AreKept read n xs → (r : ℕ)
-    (x w : Slot E) → r < length xs → x ≡ get_or xs r x → w.row ≡ x.row → (k : ℕ) (z : Slot E) → k < length (set xs r w)
-    → IsRising (get_or (set xs r w) k z).row.items.items
-rising_with {E} read n xs kept r x w lr at row k z l = by (cases_eq k r)
+-- where it is said right whether a row changes, it is exchanged
+pub exchanged_where : {E : Type 0} (read : E → Fraction) (s : ℕ) (x y : Slot E) → IsMarked read s x → IsPut x y
+    → IsExchanged read s x y
+exchanged_where {E} read s x y marked put = record {
+  row = λ turns. put ∙ ap (choice x) (marked.1 turns);
+  same = λ e. put ∙ ap (choice x) (unmarked x.made refl e);
+}
   where
-    in_xs : k < length xs
-    in_xs = subst (λ (m : ℕ). k < m) (length-set xs r w) l
+    choice : Slot E → Bool → Row E
+    choice x b = if b then x.spare else x.row
 
-    here : IsRising (get_or (set xs r w) r z).row.items.items
+    unmarked : (b : Bool) → x.made ≡ b → entry_of read x.row s ≡ zero_q → x.made ≡ false
+    unmarked true m e = absurd (marked.0 m e)
+    unmarked false m e = m
+
+-- a row that is marked to change, among the others
+pub marked_with : {E : Type 0} (read : E → Fraction) (s : ℕ) (xs : List (Slot E)) (r : ℕ) (x w : Slot E) → r < length xs
+    → x ≡ get_or xs r x → w.row ≡ x.row → w.made ≡ true → entry_of read x.row s ≢ zero_q
+    → ((k : ℕ) (z : Slot E) → k < length xs → k ≢ r → IsMarked read s (get_or xs k z)) → (k : ℕ) (z : Slot E)
+    → k < length xs → IsMarked read s (get_or (set xs r w) k z)
+marked_with {E} read s xs r x w lr at row made turns others k z l = by (cases_eq k r)
+  where
+    here : IsMarked read s (get_or (set xs r w) r z)
     here =
-        subst (λ (y : Slot E). IsRising y.row.items.items) (sym (get_or-set_same xs r w z lr))
-        (subst (λ (y : Row E). IsRising y.items.items) (ap (λ (y : Slot E). y.row) (sym at) ∙ sym row)
-        (kept r x lr).rising)
+        subst (λ (y : Slot E). IsMarked read s y) (sym (get_or-set_same xs r w z lr))
+        (λ m e. turns (ap (λ (y : Row E). entry_of read y s) (sym row) ∙ e), λ n. made)
 
-    by : (k ≡ r) ⊎ (k ≢ r) → IsRising (get_or (set xs r w) k z).row.items.items
-    by (inl e) = subst (λ (i : ℕ). IsRising (get_or (set xs r w) i z).row.items.items) (sym e) here
-    by (inr ne) =
-        subst (λ (y : Slot E). IsRising y.row.items.items) (sym (get_or-set_other xs r k w z ne))
-        (kept k z in_xs).rising
+    by : (k ≡ r) ⊎ (k ≢ r) → IsMarked read s (get_or (set xs r w) k z)
+    by (inl e) = subst (λ (i : ℕ). IsMarked read s (get_or (set xs r w) i z)) (sym e) here
+    by (inr ne) = subst (λ (y : Slot E). IsMarked read s y) (sym (get_or-set_other xs r k w z ne)) (others k z l ne)

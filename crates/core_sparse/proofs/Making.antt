@@ -5,7 +5,7 @@ use Rattle.std.proofs.lemmas.List.{get_or-set_same, get_or-set_other, get_or-map
 use Rattle.fractions.specs.Fraction.{Fraction}
 use Rattle.core_sparse.specs.Items.{IsKept}
 use Rattle.core_sparse.specs.Sparse.{rows_of}
-use Rattle.core_sparse.specs.Steps.{AreKept, IsMade, RowLeaves, IsExchanged}
+use Rattle.core_sparse.specs.Steps.{AreKept, IsMade, RowLeaves, IsPut}
 use Rattle.core_sparse.specs.declared.row.Row.{Row}
 use Rattle.core_sparse.specs.declared.row.Slot.{Slot}
 
@@ -75,14 +75,14 @@ module _ {E : Type 0} (most : ℕ) (read : E → Fraction) (n : ℕ) (p : Fracti
           (λ k m z ne. h.fits k z m ne)
           (λ z ne t. fits (subst (λ (u : Row E). RowLeaves most read n p s own u) (at_row z) t))
 
-module _ {E : Type 0} (read : E → Fraction) (s : ℕ) (before : List (Slot E)) where
+module _ {E : Type 0} (before : List (Slot E)) where
   -- the first n are exchanged, and the others as before
   pub record ExchangedBelow (xs : List (Slot E)) (n : ℕ) : Type 0 where
-    pub done : (k : ℕ) (x : Slot E) → k < n → IsExchanged read s (get_or before k x) (get_or xs k x)
+    pub done : (k : ℕ) (x : Slot E) → k < n → IsPut (get_or before k x) (get_or xs k x)
     pub rest : (k : ℕ) (x : Slot E) → n ≤ k → get_or xs k x ≡ get_or before k x
 
   pub exchanged_more : (xs : List (Slot E)) (i : ℕ) (x y : Slot E) → ExchangedBelow xs i → i < length xs
-      → x ≡ get_or xs i x → IsExchanged read s x y → ExchangedBelow (set xs i y) (i + 1)
+      → x ≡ get_or xs i x → IsPut x y → ExchangedBelow (set xs i y) (i + 1)
   exchanged_more xs i x y h l e now = record {
     done = λ k z m. all k m z;
     rest = λ k z m. get_or-set_other xs i k y z (later k m) ∙ h.rest k z (omega arith);
@@ -94,10 +94,10 @@ module _ {E : Type 0} (read : E → Fraction) (s : ℕ) (before : List (Slot E))
       later : (k : ℕ) → i + 1 ≤ k → k ≢ i
       later k m n = omega arith
 
-      all : (k : ℕ) → k < i + 1 → (z : Slot E) → IsExchanged read s (get_or before k z) (get_or (set xs i y) k z)
+      all : (k : ℕ) → k < i + 1 → (z : Slot E) → IsPut (get_or before k z) (get_or (set xs i y) k z)
       all = below_more
-          (λ (k : ℕ). (z : Slot E) → IsExchanged read s (get_or before k z) (get_or (set xs i y) k z)) i
-          (λ k m z. subst (λ (t : Slot E). IsExchanged read s (get_or before k z) t)
+          (λ (k : ℕ). (z : Slot E) → IsPut (get_or before k z) (get_or (set xs i y) k z)) i
+          (λ k m z. subst (λ (t : Slot E). IsPut (get_or before k z) t)
           (sym (get_or-set_other xs i k y z (other k m))) (h.done k z m))
-          (λ z. subst (λ (t : Slot E). IsExchanged read s (get_or before i z) t) (sym (get_or-set_same xs i y z l))
-          (subst (λ (t : Slot E). IsExchanged read s t y) (e ∙ get_or_default xs i x z l ∙ h.rest i z (omega arith)) now))
+          (λ z. subst (λ (t : Slot E). IsPut (get_or before i z) t) (sym (get_or-set_same xs i y z l))
+          (subst (λ (t : Slot E). IsPut t y) (e ∙ get_or_default xs i x z l ∙ h.rest i z (omega arith)) now))

@@ -1,5 +1,5 @@
 -- The columns that a merge of two rows has gone through.
-use Rattle.std.proofs.Common.{◌≡◌, ◌≢◌, ℕ, suc, ◌<◌, ◌≤◌, ◌⊎◌, inl, inr, min}
+use Rattle.std.proofs.Common.{◌≡◌, ◌≢◌, ℕ, suc, ◌<◌, ◌≤◌, ◌⊎◌, inl, inr}
 use Rattle.std.proofs.Common.{List, [], length, get_or, sym, ap, ◌∙◌, subst, arith}
 use Rattle.std.proofs.lemmas.Bool.{cases_eq, cases_lt}
 use Rattle.fractions.specs.Fraction.{Fraction, zero_q}
@@ -8,10 +8,9 @@ use Rattle.core_dict.proofs.Choice.{at_other}
 use Rattle.fractions.proofs.LessTimes.{less_zero, no_leaving}
 use Rattle.core_sparse.specs.Items.{columns, col_at, number, IsRising, IsKept, Stands}
 use Rattle.core_sparse.specs.Steps.{merged, IsCopied}
-use Rattle.core_sparse.specs.SparseLaw.{number_none}
 use Rattle.core_sparse.specs.declared.row.Item.{Item}
 use Rattle.core_sparse.proofs.Places.{kept_none}
-use Rattle.core_sparse.proofs.Walks.{stands_first, stands_on, head_from, number_between}
+use Rattle.core_sparse.proofs.Walks.{stands_first, stands_on, number_between}
 
 module _ {E : Type 0} (most : ℕ) (read : E → Fraction) (n : ℕ) (xs os : List (Item E)) (q t : Fraction) (s : ℕ) where
   -- the columns before j are merged into ys, and the walks stand at places i and k

@@ -106,15 +106,16 @@ module _ {E : Type 0} (most : ℕ) (read : E → Fraction) (r s : ℕ) (xs : Lis
       own_kept = made.kept;
       own_entries = own_is;
       own_value = own_value_is;
-      kept = λ i z l ne turns. (exact i z (inside i l) ne (turning i z l turns)).items.kept;
+      marked = λ i z l ne. (exact i z (inside i l) ne).marked;
+      kept = λ i z l ne turns. ((exact i z (inside i l) ne).after (turning i z l turns)).items.kept;
       entries = λ i j l ne turns m.
           ap (λ (a : ℕ → Fraction). a j) (entries_at read (λ (z : Slot E). z.spare) xs i o (inside i l))
-          ∙ (exact i o (inside i l) ne (turning i o l turns)).items.entries j m
+          ∙ ((exact i o (inside i l) ne).after (turning i o l turns)).items.entries j m
           ∙ entry_is most d r s p (entry_of read y) pivot_is own_is (entry_of read (get_or xs i o).row) (d.entry i)
           (entries_of i o (inside i l)) j m;
       values = λ i l ne turns.
           value_of_at read (λ (z : Slot E). z.spare) xs i o (inside i l)
-          ∙ (exact i o (inside i l) ne (turning i o l turns)).value
+          ∙ ((exact i o (inside i l) ne).after (turning i o l turns)).value
           ∙ less_same (sym (slot_value read xs i o (inside i l)))
           (ap (λ (a : ℕ → Fraction). a s) (entries_of i o (inside i l))) own_value_is;
       costs_kept = λ turns. (last turns).kept;

@@ -4,7 +4,7 @@ use Rattle.fractions.specs.Fraction.{Fraction, zero_q}
 use Rattle.core_dict.specs.Dictionary.{Dictionary}
 use Rattle.core_dict.specs.Pivot.{own_entry, own_value, other_entry, other_value}
 use Rattle.core_sparse.specs.Items.{number, IsKept}
-use Rattle.core_sparse.specs.Steps.{entry_of}
+use Rattle.core_sparse.specs.Steps.{entry_of, IsMarked}
 use Rattle.core_sparse.specs.declared.row.Item.{Item}
 use Rattle.core_sparse.specs.declared.row.Row.{Row}
 use Rattle.core_sparse.specs.declared.row.Slot.{Slot}
@@ -50,6 +50,7 @@ pub record IsPrepared {E : Type 0} (read : E → Fraction) (r s : ℕ) (xs : Lis
   pub own_entries : (j : ℕ) → j < length nonbasic
       → entry_of read own j ≡ own_entry (tableau read (rows_of xs) costs basic nonbasic) r s j
   pub own_value : read own.value ≡ own_value (tableau read (rows_of xs) costs basic nonbasic) r s
+  pub marked : (i : ℕ) (x : Slot E) → i < length basic → i ≢ r → IsMarked read s (get_or xs i x)
   pub kept : (i : ℕ) (x : Slot E) → i < length basic → i ≢ r → entry_of_row read (rows_of xs) i s ≢ zero_q
       → IsKept read (length nonbasic) (get_or xs i x).spare.items.items
   pub entries : (i j : ℕ) → i < length basic → i ≢ r → entry_of_row read (rows_of xs) i s ≢ zero_q

@@ -1,5 +1,5 @@
 -- What the steps of a pivot make of the rows, and when one of their operations leaves a type.
-use Rattle.std.specs.Prelude.{◌≡◌, ◌≢◌, ℕ, ◌<◌, ◌≤◌, ◌==◌, List, length, map, get_or, if◌then◌else◌}
+use Rattle.std.specs.Prelude.{◌≡◌, ◌≢◌, ℕ, ◌<◌, ◌≤◌, ◌==◌, ◌↔◌, IsTrue, List, length, map, get_or, if◌then◌else◌}
 use Rattle.fractions.specs.Fraction.{Fraction, zero_q, one_q, ◌-ℚ◌, ◌*ℚ◌, ◌/ℚ◌, whole}
 use Rattle.fractions.specs.Leaves.{OverLeaves, LessTimesLeaves}
 use Rattle.core_dict.specs.Programme.{ProgrammeView, height, entry, bound}
@@ -79,11 +79,20 @@ pub data RowLeaves {E : Type 0} (most : ℕ) (read : E → Fraction) (n : ℕ) (
       → RowLeaves most read n p s own before
 
 -- ---- rows with room
--- where the row changes, its room has what it becomes
-abbrev pub IsMade : {E : Type 0} → (E → Fraction) → ℕ → Fraction → ℕ → Row E → Slot E → Type 0
-IsMade read n p s own x = entry_of read x.row s ≢ zero_q → IsAfter read n p s own x.row x.spare
+-- it is said whether the row changes
+abbrev pub IsMarked : {E : Type 0} → (E → Fraction) → ℕ → Slot E → Type 0
+IsMarked read s x = IsTrue x.made ↔ (entry_of read x.row s ≢ zero_q)
 
--- y is x with the row and its room exchanged, where the row changes
+-- and where it does, its room has what it becomes
+pub record IsMade {E : Type 0} (read : E → Fraction) (n : ℕ) (p : Fraction) (s : ℕ) (own : Row E) (x : Slot E) : Type 0 where
+  pub marked : IsMarked read s x
+  pub after : entry_of read x.row s ≢ zero_q → IsAfter read n p s own x.row x.spare
+
+-- y is x with the row and its room exchanged, where it is said that the row changes
+abbrev pub IsPut : {E : Type 0} → Slot E → Slot E → Type 0
+IsPut x y = y.row ≡ (if x.made then x.spare else x.row)
+
+-- where the row changes
 pub record IsExchanged {E : Type 0} (read : E → Fraction) (s : ℕ) (x y : Slot E) : Type 0 where
   pub row : entry_of read x.row s ≢ zero_q → y.row ≡ x.spare
   pub same : entry_of read x.row s ≡ zero_q → y.row ≡ x.row

@@ -53,7 +53,7 @@ fn slot<E: Exact>(alloc: Global, programme: &Programme, row: usize) -> Result<Sl
     Ok(Slot {
         row,
         spare: room(alloc),
-        place: 0,
+        made: false,
     })
 }
 

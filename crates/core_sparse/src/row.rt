@@ -14,11 +14,10 @@ pub struct Row<E> {
     pub value: E,
 }
 
-/// A row, room for what a pivot makes of it, and the place at which the pivot's column was last
-/// found, where the next search begins.
+/// A row, room for what a pivot makes of it, and whether the pivot that was made last changes it.
 #[derive(Drop)]
 pub struct Slot<E> {
     pub row: Row<E>,
     pub spare: Row<E>,
-    pub place: usize,
+    pub made: bool,
 }

@@ -87,8 +87,10 @@ impl<E: Exact> Sparse<E> {
             self.old.basic.items self.old.nonbasic.items self.old.own self.old.spare_costs.items }
         ensures { sparse_of E.value self.new ≡ pivot_of (sparse_of E.value self.old) row col }
     {
-        mem::swap(&mut self.slots[row].spare, &mut self.own);
-        exchange_all(&mut self.slots, col);
+        let slot = &mut self.slots[row];
+        mem::swap(&mut slot.spare, &mut self.own);
+        slot.made = true;
+        exchange_all(&mut self.slots);
         exchange_costs(&mut self.costs, &mut self.spare_costs, col);
         mem::swap(&mut self.basic[row], &mut self.nonbasic[col]);
     }

@@ -6,10 +6,10 @@ ghost use Rattle.fractions.specs.Leaves.{OverLeaves, LessTimesLeaves};
 ghost use Rattle.core_dict.specs.Rows.{EntriesLeave};
 ghost use Rattle.core_sparse.specs.Items.{number as number_of, IsKept, IsRising};
 ghost use Rattle.core_sparse.specs.Steps.{entry_of, AreKept, AreAfter, IsAfter, RowLeaves};
-ghost use Rattle.core_sparse.specs.Steps.{IsMade, IsExchanged};
+ghost use Rattle.core_sparse.specs.Steps.{IsMade, IsPut};
 
 use crate::fault::Fault;
-use crate::find::{number, place_from, place_of, take};
+use crate::find::number;
 use crate::merge::merge;
 use crate::numbers::{divided, is_zero};
 use crate::row::{Item, Row, Slot};
@@ -100,13 +100,11 @@ fn make<E: Exact>(
     ensures left { result ≡ Err Fault.Left
         → RowLeaves (unsigned_abs E.MOST) E.value cols (E.value pivot) col own.now slot.old.row }
 {
-    let place = place_of(&slot.row.items, col);
-    slot.place = place;
-    let (q, _next) = take(&slot.row.items, place, col);
-    if is_zero(q) {
-        return Ok(());
+    let q = number(&slot.row.items, col);
+    slot.made = !is_zero(q);
+    if slot.made {
+        other_row(&slot.row, own, pivot, q, col, cols, &mut slot.spare)?;
     }
-    other_row(&slot.row, own, pivot, q, col, cols, &mut slot.spare)?;
     Ok(())
 }
 
@@ -172,26 +170,21 @@ pub fn make_costs<E: Exact>(
 }
 
 // Puts what was made of a row in its place, where it changes.
-fn exchange<E: Exact>(slot: &mut Slot<E>, col: usize)
-    requires { IsRising slot.old.row.items.items }
-    ensures { IsExchanged E.value col slot.old slot.new }
+fn exchange<E: Exact>(slot: &mut Slot<E>)
+    ensures { IsPut slot.old slot.new }
 {
-    let place = place_from(&slot.row.items, col, slot.place);
-    let (q, _next) = take(&slot.row.items, place, col);
-    if !is_zero(q) {
+    if slot.made {
         mem::swap(&mut slot.row, &mut slot.spare);
     }
 }
 
 /// Puts what was made of each row in its place, where it changes.
-pub fn exchange_all<E: Exact>(slots: &mut [Slot<E>], col: usize)
-    requires { (k : ℕ) (x : _) → k < length slots.old
-        → IsRising (get_or slots.old k x).row.items.items }
+pub fn exchange_all<E: Exact>(slots: &mut [Slot<E>])
     ensures { (k : ℕ) (x : _) → k < length slots.old
-        → IsExchanged E.value col (get_or slots.old k x) (get_or slots.new k x) }
+        → IsPut (get_or slots.old k x) (get_or slots.new k x) }
 {
     for i in 0..slots.len() {
-        exchange(&mut slots[i], col);
+        exchange(&mut slots[i]);
     }
 }
 

@@ -32,7 +32,7 @@ fn wide_slot(alloc: Global, slot: &Slot<Frac64>) -> Result<Slot<Frac128>, AllocE
     Ok(Slot {
         row,
         spare: room(alloc),
-        place: 0,
+        made: false,
     })
 }
 

@@ -1,4 +1,4 @@
-use Rattle.std.proofs.Common.{◌≡◌, ◌<◌, ◌≤◌, ℕ, suc, min, get_or, sym, ap, ◌∙◌, subst, arith}
+use Rattle.std.proofs.Common.{◌≡◌, ◌≤◌, ℕ, suc, min, get_or, ap, ◌∙◌, subst, arith}
 use Rattle.core_sparse.specs.Items.{columns}
 use Rattle.core_sparse.specs.Steps.{IsCopied}
 use Rattle.core_sparse.proofs.Copying.{copied_first, copied_more, copied_on}

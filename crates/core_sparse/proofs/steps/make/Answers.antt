@@ -1,15 +1,15 @@
-use Rattle.std.proofs.Common.{sym, ap, ◌∙◌}
-use Rattle.core_sparse.specs.Items.{number}
+use Rattle.std.proofs.Common.{◌≡◌, Bool, true, false, not, refl, sym, ◌∙◌}
 use Rattle.core_sparse.proofs.Others.{same_fault, unchanged_row}
 use Rattle.core_sparse.proofs.steps.make.Goals as goal
 
-pub returns-then-is_zero-clause-exact : goal.returns-then-is_zero-clause-exact
-returns-then-is_zero-clause-exact g c =
-    λ turns. absurd (turns (ap (λ (xs : _). number g.E.Exact.value xs c.args.col) (sym c.deref-2.ensures.value) ∙ sym c.take-q.ensures.value ∙ c.is_zero.ensures.0 c.if-is_zero.true))
+-- what is not said to change does not
+unmarked : (b : Bool) → not b ≡ false → b ≡ true
+unmarked true e = refl
+unmarked false e = absurd cc
 
-pub returns-then-is_zero-clause-fits : goal.returns-then-is_zero-clause-fits
-returns-then-is_zero-clause-fits g c =
-    unchanged_row (ap (λ (xs : _). number g.E.Exact.value xs c.args.col) (sym c.deref-2.ensures.value) ∙ sym c.take-q.ensures.value ∙ c.is_zero.ensures.0 c.if-is_zero.true)
+pub returns-else-slot-clause-fits : goal.returns-else-slot-clause-fits
+returns-else-slot-clause-fits g c =
+    unchanged_row (sym c.number-q.ensures ∙ c.is_zero.ensures.0 (unmarked c.is_zero.result c.if-slot.false))
 
 pub returns-in_err-other_row-clause-left : goal.returns-in_err-other_row-clause-left
 returns-in_err-other_row-clause-left g c =

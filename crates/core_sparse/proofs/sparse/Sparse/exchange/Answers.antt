@@ -1,47 +1,43 @@
-use Rattle.std.proofs.Common.{◌≡◌, ℕ, ◌<◌, List, length, get_or, set, sym, ap, ◌∙◌, subst, refl}
+use Rattle.std.proofs.Common.{◌≡◌, ℕ, ◌<◌, true, List, length, get_or, set, sym, ap, ◌∙◌, subst, refl}
 use Rattle.std.specs.Vec.{with_item}
 use Rattle.std.proofs.lemmas.List.{with_items_is, get_or_default, length-set}
-use Rattle.core_sparse.specs.Items.{IsKept, IsRising}
-use Rattle.core_sparse.specs.Steps.{AreKept, IsExchanged}
+use Rattle.fractions.specs.Fraction.{Fraction}
+use Rattle.core_sparse.specs.Items.{IsKept}
+use Rattle.core_sparse.specs.Steps.{entry_of, AreKept, IsPut, IsExchanged}
 use Rattle.core_sparse.specs.Sparse.{rows_of, tableau}
-use Rattle.core_sparse.specs.SparseLaw.{sparse_is_dictionary}
+use Rattle.core_sparse.specs.SparseLaw.{slot_entries, sparse_is_dictionary}
 use Rattle.core_sparse.specs.declared.row.Slot.{Slot}
-use Rattle.core_sparse.proofs.Exchanged.{pivoted, variables_after, kept_after, costs_kept_after, rising_with}
+use Rattle.core_sparse.proofs.Exchanged.{pivoted, variables_after, kept_after, costs_kept_after, exchanged_where, marked_with}
 use Rattle.core_sparse.proofs.sparse.Sparse.exchange.Goals as goal
-
-pub exchange_all-requires : goal.exchange_all-requires
-exchange_all-requires g c =
-    let s = c.args.self.now in
-    let read = g.E.Exact.value in
-    let x : Slot _ = c.index_mut.result.now in
-    let w : Slot _ = record { row = x.row; spare = c.swap.new.x; place = x.place } in
-    let row_in : c.args.row < length s.slots.items = subst (λ (n : ℕ). c.args.row < n) (sym s.rows) c.requires.row_in in
-    subst (λ (zs : List _). (k : ℕ) (z : Slot _) → k < length zs → IsRising (get_or zs k z).row.items.items)
-    (sym c.deref_mut.ensures.value)
-    (rising_with read (length s.nonbasic.items) s.slots.items s.kept c.args.row x w row_in c.index_mut.ensures.value refl)
 
 pub invariant_of-self : goal.invariant_of-self
 invariant_of-self g c =
     let s = c.args.self.now in
     let read = g.E.Exact.value in
-    let x : Slot _ = c.index_mut.result.now in
-    let w : Slot _ = record { row = x.row; spare = c.swap.new.x; place = x.place } in
+    let x : Slot _ = c.index_mut-slot.result.now in
+    let w : Slot _ = record { row = x.row; spare = c.swap.new.x; made = true } in
     let ys = c.exchange_all.new.slots in
-    let at = c.index_mut.ensures.value in
+    let at = c.index_mut-slot.ensures.value in
     let set_long : length c.deref_mut.result.now ≡ length s.slots.items =
     ap length c.deref_mut.ensures.value ∙ length-set s.slots.items c.args.row w in
     let long : length ys ≡ length s.slots.items = c.exchange_all.auto.slots ∙ set_long in
+    let row_in : c.args.row < length s.slots.items = subst (λ (n : ℕ). c.args.row < n) (sym s.rows) c.requires.row_in in
     let exchanged : (k : ℕ) (z : Slot _) → k < length s.slots.items
     → IsExchanged read c.args.col (get_or (set s.slots.items c.args.row w) k z) (get_or ys k z) =
-    λ k z l. subst (λ (zs : List _). IsExchanged read c.args.col (get_or zs k z) (get_or ys k z))
-    c.deref_mut.ensures.value (c.exchange_all.ensures k z (subst (λ (n : ℕ). k < n) (sym set_long) l)) in
+    λ k z l. exchanged_where read c.args.col _ _
+    (marked_with read c.args.col s.slots.items c.args.row x w row_in at refl refl
+    (λ e. c.requires.entry (ap (λ (a : ℕ → Fraction). a c.args.col) (slot_entries read s.slots.items c.args.row x row_in)
+    ∙ ap (λ (y : Slot _). entry_of read y.row c.args.col) (sym at) ∙ e))
+    (λ i y m ne. c.requires.prepared.marked i y (subst (λ (n : ℕ). i < n) s.rows m) ne) k z l)
+    (subst (λ (zs : List _). IsPut (get_or zs k z) (get_or ys k z))
+    c.deref_mut.ensures.value (c.exchange_all.ensures k z (subst (λ (n : ℕ). k < n) (sym set_long) l))) in
     let written = with_items_is (with_item s.slots c.args.row w) ys (long ∙ sym s.slots.ok.0) in
     let b_is : c.swap-2.new.x ≡ get_or s.nonbasic.items c.args.col 0 =
-    c.swap-2.ensures.x_after ∙ c.index_mut-3.ensures.value
-    ∙ get_or_default s.nonbasic.items c.args.col c.index_mut-3.result.now 0 c.requires.col_in in
+    c.swap-2.ensures.x_after ∙ c.index_mut-2.ensures.value
+    ∙ get_or_default s.nonbasic.items c.args.col c.index_mut-2.result.now 0 c.requires.col_in in
     let n_is : c.swap-2.new.y ≡ get_or s.basic.items c.args.row 0 =
-    c.swap-2.ensures.y_after ∙ c.index_mut-2.ensures.value
-    ∙ get_or_default s.basic.items c.args.row c.index_mut-2.result.now 0 c.requires.row_in in
+    c.swap-2.ensures.y_after ∙ c.index_mut.ensures.value
+    ∙ get_or_default s.basic.items c.args.row c.index_mut.result.now 0 c.requires.row_in in
     let columns = length-set s.nonbasic.items c.args.col c.swap-2.new.y in
     record {
       rows = ap length written ∙ long ∙ s.rows ∙ sym (length-set s.basic.items c.args.row c.swap-2.new.x);
@@ -66,24 +62,30 @@ pub returns : goal.returns
 returns g c =
     let s = c.args.self.now in
     let read = g.E.Exact.value in
-    let x : Slot _ = c.index_mut.result.now in
-    let w : Slot _ = record { row = x.row; spare = c.swap.new.x; place = x.place } in
+    let x : Slot _ = c.index_mut-slot.result.now in
+    let w : Slot _ = record { row = x.row; spare = c.swap.new.x; made = true } in
     let ys = c.exchange_all.new.slots in
-    let at = c.index_mut.ensures.value in
+    let at = c.index_mut-slot.ensures.value in
     let set_long : length c.deref_mut.result.now ≡ length s.slots.items =
     ap length c.deref_mut.ensures.value ∙ length-set s.slots.items c.args.row w in
     let long : length ys ≡ length s.slots.items = c.exchange_all.auto.slots ∙ set_long in
+    let row_in : c.args.row < length s.slots.items = subst (λ (n : ℕ). c.args.row < n) (sym s.rows) c.requires.row_in in
     let exchanged : (k : ℕ) (z : Slot _) → k < length s.slots.items
     → IsExchanged read c.args.col (get_or (set s.slots.items c.args.row w) k z) (get_or ys k z) =
-    λ k z l. subst (λ (zs : List _). IsExchanged read c.args.col (get_or zs k z) (get_or ys k z))
-    c.deref_mut.ensures.value (c.exchange_all.ensures k z (subst (λ (n : ℕ). k < n) (sym set_long) l)) in
+    λ k z l. exchanged_where read c.args.col _ _
+    (marked_with read c.args.col s.slots.items c.args.row x w row_in at refl refl
+    (λ e. c.requires.entry (ap (λ (a : ℕ → Fraction). a c.args.col) (slot_entries read s.slots.items c.args.row x row_in)
+    ∙ ap (λ (y : Slot _). entry_of read y.row c.args.col) (sym at) ∙ e))
+    (λ i y m ne. c.requires.prepared.marked i y (subst (λ (n : ℕ). i < n) s.rows m) ne) k z l)
+    (subst (λ (zs : List _). IsPut (get_or zs k z) (get_or ys k z))
+    c.deref_mut.ensures.value (c.exchange_all.ensures k z (subst (λ (n : ℕ). k < n) (sym set_long) l))) in
     let written = with_items_is (with_item s.slots c.args.row w) ys (long ∙ sym s.slots.ok.0) in
     let b_is : c.swap-2.new.x ≡ get_or s.nonbasic.items c.args.col 0 =
-    c.swap-2.ensures.x_after ∙ c.index_mut-3.ensures.value
-    ∙ get_or_default s.nonbasic.items c.args.col c.index_mut-3.result.now 0 c.requires.col_in in
+    c.swap-2.ensures.x_after ∙ c.index_mut-2.ensures.value
+    ∙ get_or_default s.nonbasic.items c.args.col c.index_mut-2.result.now 0 c.requires.col_in in
     let n_is : c.swap-2.new.y ≡ get_or s.basic.items c.args.row 0 =
-    c.swap-2.ensures.y_after ∙ c.index_mut-2.ensures.value
-    ∙ get_or_default s.basic.items c.args.row c.index_mut-2.result.now 0 c.requires.row_in in
+    c.swap-2.ensures.y_after ∙ c.index_mut.ensures.value
+    ∙ get_or_default s.basic.items c.args.row c.index_mut.result.now 0 c.requires.row_in in
     ap (λ (xs : List _). tableau read (rows_of xs) c.exchange_costs.new.costs.items
     (set s.basic.items c.args.row c.swap-2.new.x) (set s.nonbasic.items c.args.col c.swap-2.new.y)) written
     ∙ pivoted read c.args.row c.args.col s.slots.items
