@@ -1,5 +1,5 @@
 -- The record of a path is sound where its count, its names and its prices are.
-use Rattle.std.proofs.Common.{◌≡◌, refl, sym, ◌∙◌, ℕ, zero, suc, ◌+◌, ◌-◌, ◌^◌, ℤ, pos, negsuc, List, [], ◌∷◌, length, drop, replicate, true, ◌&&◌, Option, Some, None, is_some, Result, Ok, Err, IfOk, IfSome, ap, ◌<◌, ◌≤ℤ◌, int_le, map, ◌++◌, append_assoc, arith}
+use Rattle.std.proofs.Common.{◌≡◌, refl, sym, ◌∙◌, ℕ, zero, suc, ◌+◌, ◌-◌, ◌^◌, ℤ, pos, negsuc, List, [], ◌∷◌, length, drop, replicate, true, ◌&&◌, Option, Some, None, is_some, is_none, Result, Ok, Err, IfOk, IfSome, ap, ◌<◌, ◌≤ℤ◌, int_le, map, ◌++◌, append_assoc, arith}
 use Rattle.std.specs.List.{list_all}
 use Rattle.std.specs.Option.{unwrap_or}
 use Rattle.std.proofs.lemmas.Int.{ints}
@@ -18,15 +18,19 @@ use Rattle.core_case.specs.declared.forms.Form.TheVariants.{Name}
 use Rattle.core_case.specs.declared.faults.RecordFault.{RecordFault}
 use Rattle.core_case.specs.declared.faults.RecordFault.TheVariants.{FieldCount}
 
+-- nothing is there where none is
+none-there : {X : Type 0} (o : Option X) → is_none o ≡ true → o ≡ None
+none-there None h = refl
+none-there (Some x) h = absurd (cc)
+
+-- a price has its form, and lies in its range
 price-formed : (word : List ℕ) → is_price word ≡ true → form_fault price_form word ≡ None
 price-formed word h =
-    let parts = and_parts (is_some (whole word)) (is_between (negsuc (10 ^ 12 - 1)) (pos (10 ^ 12)) (whole word)) h in
-    rw parts.0 refl
+    none-there (form_fault price_form word) (and_parts (is_none (form_fault price_form word)) (is_none (range_fault price_form word)) h).0
 
 price-ranged : (word : List ℕ) → is_price word ≡ true → range_fault price_form word ≡ None
 price-ranged word h =
-    let parts = and_parts (is_some (whole word)) (is_between (negsuc (10 ^ 12 - 1)) (pos (10 ^ 12)) (whole word)) h in
-    rw parts.1 refl
+    none-there (range_fault price_form word) (and_parts (is_none (form_fault price_form word)) (is_none (range_fault price_form word)) h).1
 
 -- prices pass each test that a price passes
 prices-pass : (test : Form → List ℕ → Option RecordFault) → ((word : List ℕ) → is_price word ≡ true → test price_form word ≡ None)
@@ -77,7 +81,9 @@ int_le-true a b h = grind (arith, ints)
 -- a number of the range is a price
 pub price-is : (word : List ℕ) (z : ℤ) → whole word ≡ Some z → negsuc (10 ^ 12 - 1) ≤ℤ z → z ≤ℤ pos (10 ^ 12) → is_price word ≡ true
 price-is word z e low high =
-    rw e (and_from (int_le (negsuc (10 ^ 12 - 1)) z) (int_le z (pos (10 ^ 12))) (int_le-true (negsuc (10 ^ 12 - 1)) z low) (int_le-true z (pos (10 ^ 12)) high))
+    let within : is_between (negsuc (10 ^ 12 - 1)) (pos (10 ^ 12)) (Some z) ≡ true =
+    and_from (int_le (negsuc (10 ^ 12 - 1)) z) (int_le z (pos (10 ^ 12))) (int_le-true (negsuc (10 ^ 12 - 1)) z low) (int_le-true z (pos (10 ^ 12)) high) in
+    rw (e, within) refl
 
 -- past a price the words are prices where those with it are
 pub prices-more : (r : Record) (i : ℕ) → i < length r → is_price (field r i) ≡ true → list_all is_price (drop i r) ≡ list_all is_price (drop (i + 1) r)

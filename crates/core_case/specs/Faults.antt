@@ -1,6 +1,6 @@
 -- The first faulty record of a case, and its fault. A record is judged by the sound records before it, in the order
 -- of the steps below, and the first step that fails gives the fault.
-use Rattle.std.specs.Prelude.{ℕ, zero, suc, ◌-◌, ◌^◌, List, [], ◌∷◌, ◌++◌, length, map, filter, codes, ℤ, pos, negsuc, int_le, Bool, true, false, not, ◌&&◌, ◌||◌, nat_lt, if◌then◌else◌, Option, Some, None, is_some}
+use Rattle.std.specs.Prelude.{ℕ, zero, suc, List, [], ◌∷◌, ◌++◌, length, map, filter, codes, ℤ, pos, negsuc, int_le, Bool, true, false, not, ◌&&◌, ◌||◌, nat_lt, if◌then◌else◌, Option, Some, None, is_some, is_none}
 use Rattle.std.specs.Ordering.{int_eq}
 use Rattle.std.specs.Option.{option_or, unwrap_or}
 use Rattle.std.specs.List.{list_all, find}
@@ -15,7 +15,7 @@ use Rattle.core_case.specs.declared.forms.Form.{Form}
 use Rattle.core_case.specs.declared.forms.Form.TheVariants.{Version, Name, InstrumentKind, Number, StartDate, HolidayDate}
 use Rattle.core_case.specs.declared.faults.RecordFault.{RecordFault}
 use Rattle.core_case.specs.declared.faults.RecordFault.TheVariants.{FirstNotCore, UnknownVersion, UnknownKind, OutOfOrder, FieldCount, NotAName, NotANumber, NotADate, NotAnInstrumentKind, OutOfRange, Undeclared, Repeated, TooMany, CollateralOfFuture, ExpiryOfSecurity, Incomplete, AfterEnd, EndMissing}
-use Rattle.core_case.specs.Kinds.{kind_of, is_kind, HeadingView, forms, references, key_length, most_records, number_in, natural_in}
+use Rattle.core_case.specs.Kinds.{kind_of, is_kind, HeadingView, forms, price_form, references, key_length, most_records, number_in, natural_in}
 
 -- the records of a kind
 abbrev pub of_kind : RecordKind → List Record → List Record
@@ -113,7 +113,7 @@ range_fault HolidayDate word = fault_unless (is_between first_date last_holiday 
 
 -- whether a word writes a price, which has neither of these faults
 abbrev pub is_price : List ℕ → Bool
-is_price word = is_some (whole word) && is_between (negsuc (10 ^ 12 - 1)) (pos (10 ^ 12)) (whole word)
+is_price word = is_none (form_fault price_form word) && is_none (range_fault price_form word)
 
 -- the fault of the fields of a record of a kind
 abbrev pub shape_fault : HeadingView → Record → RecordKind → Option RecordFault

@@ -16,6 +16,9 @@ use crate::kinds::RecordKind;
 use core_rows::{Fields, day_text, name_of, same, whole};
 use jiff::civil::Date;
 
+/// The largest absolute value of a price.
+pub(crate) const LARGEST_PRICE: i64 = 1_000_000_000_000;
+
 /// What a field is to be.
 #[derive(Clone, Copy, Debug)]
 pub(crate) enum Form {
@@ -93,7 +96,7 @@ pub(crate) fn form_at(heading: Heading, row: &Fields, kind: RecordKind, place: u
         (RecordKind::Holiday, _) => Form::HolidayDate,
         (RecordKind::Tier, 1) => number(0, 1_000_000_000_000),
         (RecordKind::Member | RecordKind::Path, 1) => Form::Name,
-        (RecordKind::Path, _) => number(-1_000_000_000_000, 1_000_000_000_000),
+        (RecordKind::Path, _) => number(-LARGEST_PRICE, LARGEST_PRICE),
         (RecordKind::Member, _) => number(1, 1_000_000),
         (RecordKind::Position, _) => number(-1_000_000_000, 1_000_000_000),
         (RecordKind::Collateral, _) => number(1, 1_000_000_000),

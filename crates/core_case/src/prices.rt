@@ -6,6 +6,7 @@ ghost use Rattle.core_case.specs.Faults.{is_price, shape_fault};
 ghost use Rattle.core_case.specs.Stated.{numbers_from};
 ghost use Rattle.core_case.specs.declared.kinds.RecordKind.TheVariants.{Path};
 
+use crate::forms::LARGEST_PRICE;
 use crate::heading::Heading;
 use crate::kinds::{RecordKind, is_kind};
 use core_rows::{Fields, name_of, whole};
@@ -21,7 +22,7 @@ fn prices_from(alloc: Global, row: &Fields) -> Result<Option<Vec<i64>>, AllocErr
     let mut prices = Vec::with_capacity(alloc, row.len().saturating_sub(3))?;
     for i in 3..row.len() {
         match whole(row.word(i)) {
-            Some(price) if -1_000_000_000_000 <= price && price <= 1_000_000_000_000 => {
+            Some(price) if -LARGEST_PRICE <= price && price <= LARGEST_PRICE => {
                 prices.push(price)?
             }
             _ => return Ok(None),
