@@ -2,14 +2,13 @@ ghost use Rattle.std.specs.Prelude.{◌≡◌, ◌↔◌, IsTrue};
 ghost use Rattle.fractions.specs.Fraction.{zero_q};
 
 use crate::exact::pair;
-use crate::runs::{leaves_64, near_62, started, two_scenarios};
+use crate::runs::{leaves_64, near_62, start_of, two_scenarios};
 use crate::same::is_same;
 use core_dict::{Dense, PivotFault, Store, Widen};
 use core_sparse::Sparse;
 use exact_frac::{Exact, Frac64, Frac128};
 use std::alloc::{AllocError, Global};
 use std::process::Abort;
-use std::test::Fail;
 
 // a whole number between two texts
 fn push(
@@ -99,9 +98,9 @@ pub(crate) fn text_is<E: Exact, D: Store<E>>(
     alloc: Global,
     dict: &D,
     wanted: &str,
-) -> Result<(), AllocError> {
-    is_same(rt, text_of(alloc, dict)?.as_str(), wanted);
-    Ok(())
+) {
+    let text = text_of(alloc, dict).expect(rt, "memory");
+    is_same(rt, text.as_str(), wanted);
 }
 
 // looks that each of these pivots is made
@@ -117,56 +116,48 @@ pub(crate) fn pivot_all<E: Exact, D: Store<E>>(
 }
 
 #[test]
-fn ten_rows_and_one_pivot(rt: HostRuntime) -> Result<(), Fail> {
+fn ten_rows_and_one_pivot(rt: HostRuntime) {
     let alloc = rt.alloc();
-    let programme = two_scenarios(&rt, alloc)?;
-    is_same(&rt, (programme.rows(), programme.cols()), (10, 3));
-    let mut dict: Dense<Frac64> = started(alloc, &programme)?;
+    let mut dict: Dense<Frac64> = start_of(&rt, alloc, &two_scenarios(&rt, alloc));
     let start =
         "4: 1 1 1 0\n5: -1 -1 -1 0\n6: 1 1 0 0\n7: 1 0 1 0\n8: 0 -8 0 -1\n9: 0 -8 -2 -1\n10: -10 -8 -2 -1\n11: 0 -3 0 -1\n12: 0 -3 -6 -1\n13: -10 -3 -6 -1\n1: 0\n2: 0\n3: 1\n";
-    text_is(&rt, alloc, &dict, start)?;
+    text_is(&rt, alloc, &dict, start);
     pivot_all(&rt, alloc, &mut dict, &[(6, 0)]);
     let after =
         "4: -1/4 1/8 3/4 -1/8\n5: 1/4 -1/8 -3/4 1/8\n6: -1/4 1/8 -1/4 -1/8\n7: 1 0 1 0\n8: 10 -1 2 0\n9: 10 -1 0 0\n1: 5/4 -1/8 1/4 1/8\n11: 15/4 -3/8 3/4 -5/8\n12: 15/4 -3/8 -21/4 -5/8\n13: -25/4 -3/8 -21/4 -5/8\n10: 0\n2: 0\n3: 1\n";
-    text_is(&rt, alloc, &dict, after)?;
-    Ok(())
+    text_is(&rt, alloc, &dict, after);
 }
 
 #[test]
-fn large_numbers_that_fit(rt: HostRuntime) -> Result<(), Fail> {
+fn large_numbers_that_fit(rt: HostRuntime) {
     let alloc = rt.alloc();
-    let mut dict: Dense<Frac64> = started(alloc, &near_62(&rt, alloc)?)?;
+    let mut dict: Dense<Frac64> = start_of(&rt, alloc, &near_62(&rt, alloc));
     pivot_all(&rt, alloc, &mut dict, &[(0, 0), (2, 2)]);
     let after =
         "1: 1/2305843009213693952 -1/2305843009213693952 0 0 0\n6: -1 0 -2305843009213693951 0 0\n3: 1/2305843009213693953 0 0 -1/2305843009213693953 0\n5: 0\n2: 0\n7: 0\n4: 1\n";
-    text_is(&rt, alloc, &dict, after)?;
-    Ok(())
+    text_is(&rt, alloc, &dict, after);
 }
 
 // looks that a pivot leaves 64 bits and changes nothing, and hands on the same dictionary at 128 bits
-pub(crate) fn widened<N: Widen<W>, W: Store<Frac128>>(
-    rt: &impl Abort,
-    alloc: Global,
-) -> Result<W, Fail> {
-    let mut dict: N = started(alloc, &leaves_64(rt, alloc)?)?;
+pub(crate) fn widened<N: Widen<W>, W: Store<Frac128>>(rt: &impl Abort, alloc: Global) -> W {
+    let mut dict: N = start_of(rt, alloc, &leaves_64(rt, alloc));
     let answer = pivot(rt, alloc, &mut dict, 0, 0);
     is_same(rt, answer, Err(PivotFault::Left));
     let before = "4: -1 -10000000 -1 0\n5: -1 -1 -1000000000000 0\n1: 0\n2: 0\n3: 1\n";
-    text_is(rt, alloc, &dict, before)?;
-    let wide = dict.widen(alloc)?;
-    text_is(rt, alloc, &wide, before)?;
-    Ok(wide)
+    text_is(rt, alloc, &dict, before);
+    let wide = dict.widen(alloc).expect(rt, "memory");
+    text_is(rt, alloc, &wide, before);
+    wide
 }
 
 #[test]
-fn a_pivot_that_leaves_64_bits(rt: HostRuntime) -> Result<(), Fail> {
+fn a_pivot_that_leaves_64_bits(rt: HostRuntime) {
     let alloc = rt.alloc();
-    let mut wide = widened::<Dense<Frac64>, Dense<Frac128>>(&rt, alloc)?;
+    let mut wide = widened::<Dense<Frac64>, Dense<Frac128>>(&rt, alloc);
     pivot_all(&rt, alloc, &mut wide, &[(0, 0)]);
     let after =
         "1: 1/10000000 -1/10000000 1/10000000 0\n5: -9999999/10000000 -1/10000000 -9999999999999999999/10000000 0\n4: 0\n2: 0\n3: 1\n";
-    text_is(&rt, alloc, &wide, after)?;
-    Ok(())
+    text_is(&rt, alloc, &wide, after);
 }
 
 // the first entry of a row from a column on that is not 0, entry by entry: its column and numbers
@@ -233,25 +224,17 @@ fn walked<E: Exact, D: Store<E>>(
 
 // looks that a walk along a row of the start meets its entries, and that after these pivots each search in every row
 // finds the first one
-fn walks<D: Store<Frac64>>(
-    rt: &impl Abort,
-    alloc: Global,
-    places: &[(usize, usize)],
-) -> Result<(), Fail> {
-    let mut dict: D = started(alloc, &two_scenarios(rt, alloc)?)?;
+fn walks<D: Store<Frac64>>(rt: &impl Abort, alloc: Global, places: &[(usize, usize)]) {
+    let mut dict: D = start_of(rt, alloc, &two_scenarios(rt, alloc));
     let along = [(0, (-8, 1)), (2, (-1, 1))];
-    is_same(
-        rt,
-        walked(rt, alloc, &dict, 4)?.as_slice(),
-        along.as_slice(),
-    );
+    let walked = walked(rt, alloc, &dict, 4).expect(rt, "memory");
+    is_same(rt, walked.as_slice(), along.as_slice());
     pivot_all(rt, alloc, &mut dict, places);
     each_next_entry_is_the_first(rt, &dict);
-    Ok(())
 }
 
 #[test]
-fn a_walk_along_a_row(rt: HostRuntime) -> Result<(), Fail> {
-    walks::<Dense<Frac64>>(&rt, rt.alloc(), &[])?;
-    walks::<Sparse<Frac64>>(&rt, rt.alloc(), &[(6, 0)])
+fn a_walk_along_a_row(rt: HostRuntime) {
+    walks::<Dense<Frac64>>(&rt, rt.alloc(), &[]);
+    walks::<Sparse<Frac64>>(&rt, rt.alloc(), &[(6, 0)]);
 }

@@ -11,7 +11,6 @@ use core_run::{End, Ran, RunFault, run, run_wide};
 use exact_frac::{Exact, Frac64, Frac128};
 use std::alloc::{AllocError, Global};
 use std::process::Abort;
-use std::test::Fail;
 
 /// A share sold on two days in two scenarios: its columns are what is closed on day 1 and on day 2, and the loss.
 const TWO_SCENARIOS: [([i64; 3], i64); 10] = [
@@ -68,35 +67,37 @@ pub(crate) fn programme<const N: usize>(
     rt: &impl Abort,
     alloc: Global,
     rows: &[([i64; N], i64)],
-) -> Result<Programme, AllocError> {
+) -> Programme {
     assert!(rt; N >= 1 && N <= 65535 && rows.len() <= 65535);
-    let mut programme = Programme::make(alloc, rows.len(), N)?;
+    let mut programme = Programme::make(alloc, rows.len(), N).expect(rt, "memory");
     for (i, (entries, bound)) in rows.iter().enumerate() {
         set_bound(rt, &mut programme, i, *bound);
         for (j, entry) in entries.iter().enumerate() {
             set(rt, &mut programme, i, j, *entry);
         }
     }
-    Ok(programme)
+    programme
 }
 
 /// The programme of [`TWO_SCENARIOS`].
-pub(crate) fn two_scenarios(rt: &impl Abort, alloc: Global) -> Result<Programme, AllocError> {
-    programme(rt, alloc, &TWO_SCENARIOS)
+pub(crate) fn two_scenarios(rt: &impl Abort, alloc: Global) -> Programme {
+    let programme = programme(rt, alloc, &TWO_SCENARIOS);
+    is_same(rt, (programme.rows(), programme.cols()), (10, 3));
+    programme
 }
 
 /// The programme of [`LEAVES_64`].
-pub(crate) fn leaves_64(rt: &impl Abort, alloc: Global) -> Result<Programme, AllocError> {
+pub(crate) fn leaves_64(rt: &impl Abort, alloc: Global) -> Programme {
     programme(rt, alloc, &LEAVES_64)
 }
 
 /// The programme of [`LEAVES_128`].
-pub(crate) fn leaves_128(rt: &impl Abort, alloc: Global) -> Result<Programme, AllocError> {
+pub(crate) fn leaves_128(rt: &impl Abort, alloc: Global) -> Programme {
     programme(rt, alloc, &LEAVES_128)
 }
 
 /// The programme of [`NEAR_62`].
-pub(crate) fn near_62(rt: &impl Abort, alloc: Global) -> Result<Programme, AllocError> {
+pub(crate) fn near_62(rt: &impl Abort, alloc: Global) -> Programme {
     programme(rt, alloc, &NEAR_62)
 }
 
@@ -109,6 +110,15 @@ pub(crate) fn started<E: Exact, D: Store<E>>(
 {
     let dict = D::start(alloc, programme)?;
     Ok(dict)
+}
+
+/// The same, where memory is there.
+pub(crate) fn start_of<E: Exact, D: Store<E>>(
+    rt: &impl Abort,
+    alloc: Global,
+    programme: &Programme,
+) -> D {
+    started(alloc, programme).expect(rt, "memory")
 }
 
 /// The dictionary that a run from the start by the least variable leaves, and what the run comes to.
@@ -130,10 +140,21 @@ pub(crate) fn ran<E: Exact, D: Store<E>>(
     programme: &Programme,
     budget: u64,
     wanted: Result<End, RunFault>,
-) -> Result<D, AllocError> {
-    let (dict, end) = run_of(alloc, programme, budget)?;
+) -> D {
+    let (dict, end) = run_of(alloc, programme, budget).expect(rt, "memory");
     is_same(rt, end, wanted);
-    Ok(dict)
+    dict
+}
+
+/// Looks that such a run comes to what is wanted.
+fn comes_to<E: Exact, D: Store<E>>(
+    rt: &impl Abort,
+    alloc: Global,
+    programme: &Programme,
+    budget: u64,
+    wanted: Result<End, RunFault>,
+) {
+    let _dict: D = ran(rt, alloc, programme, budget, wanted);
 }
 
 /// Such a run at two widths.
@@ -153,10 +174,10 @@ pub(crate) fn ran_wide<N: Widen<W>, W: Store<Frac128>>(
     programme: &Programme,
     budget: u64,
     wanted: End,
-) -> Result<W, RunFault> {
-    let ran = run_wide_of::<N, W>(alloc, programme, budget)?;
+) -> W {
+    let ran = run_wide_of::<N, W>(alloc, programme, budget).expect(rt, "an end");
     is_same(rt, ran.end, wanted);
-    Ok(ran.dict)
+    ran.dict
 }
 
 /// The value of a variable: 0 where it is not basic.
@@ -177,28 +198,21 @@ fn values_are<E: Exact, D: Store<E>>(rt: &impl Abort, dict: &D, wanted: &[(u32, 
 }
 
 /// Three rows whose columns enter one after the other, with no number above 2^62.
-fn each_column_enters<E: Exact, D: Store<E>>(rt: &impl Abort, alloc: Global) -> Result<(), Fail> {
-    let programme = near_62(rt, alloc)?;
-    let dict: D = ran(
-        rt,
-        alloc,
-        &programme,
-        100000,
-        Ok(End::Optimal { pivots: 3 }),
-    )?;
+fn each_column_enters<E: Exact, D: Store<E>>(rt: &impl Abort, alloc: Global) {
+    let three = Ok(End::Optimal { pivots: 3 });
+    let dict: D = ran(rt, alloc, &near_62(rt, alloc), 100000, three);
     let wanted = [
         (1, (1, 2305843009213693952)),
         (2, (1, 2305843009213693951)),
         (3, (1, 2305843009213693953)),
     ];
     values_are(rt, &dict, &wanted);
-    Ok(())
 }
 
 #[test]
-fn a_run_near_the_greatest_numbers(rt: HostRuntime) -> Result<(), Fail> {
-    each_column_enters::<Frac64, Dense<Frac64>>(&rt, rt.alloc())?;
-    each_column_enters::<Frac128, Dense<Frac128>>(&rt, rt.alloc())
+fn a_run_near_the_greatest_numbers(rt: HostRuntime) {
+    each_column_enters::<Frac64, Dense<Frac64>>(&rt, rt.alloc());
+    each_column_enters::<Frac128, Dense<Frac128>>(&rt, rt.alloc());
 }
 
 /// The basic variables, by row.
@@ -217,9 +231,9 @@ fn basics_after<E: Exact, D: Store<E>>(
     programme: &Programme,
     budget: u64,
     wanted: Result<End, RunFault>,
-) -> Result<Vec<u32>, AllocError> {
-    let dict: D = ran(rt, alloc, programme, budget, wanted)?;
-    basics(alloc, &dict)
+) -> Vec<u32> {
+    let dict: D = ran(rt, alloc, programme, budget, wanted);
+    basics(alloc, &dict).expect(rt, "memory")
 }
 
 /// The first variable that is none of those before.
@@ -241,16 +255,16 @@ fn end_of_four(budget: u64) -> Result<End, RunFault> {
 }
 
 #[test]
-fn the_variables_of_two_scenarios_enter_in_turn(rt: HostRuntime) -> Result<(), Fail> {
+fn the_variables_of_two_scenarios_enter_in_turn(rt: HostRuntime) {
     let alloc = rt.alloc();
-    let programme = two_scenarios(&rt, alloc)?;
+    let programme = two_scenarios(&rt, alloc);
     let mut before = basics_after::<Frac64, Dense<Frac64>>(
         &rt,
         alloc,
         &programme,
         0,
         end_of_four(0),
-    )?;
+    );
     // the column of day 1, the slack of row 2, the loss, the column of day 2
     for (budget, wanted) in [(1, 1), (2, 5), (3, 3), (4, 2)] {
         let after = basics_after::<Frac64, Dense<Frac64>>(
@@ -259,47 +273,42 @@ fn the_variables_of_two_scenarios_enter_in_turn(rt: HostRuntime) -> Result<(), F
             &programme,
             budget,
             end_of_four(budget),
-        )?;
+        );
         is_same(&rt, entered(&after, &before), Some(wanted));
         before = after;
     }
-    Ok(())
 }
 
 #[test]
-fn the_values_of_two_scenarios(rt: HostRuntime) -> Result<(), Fail> {
+fn the_values_of_two_scenarios(rt: HostRuntime) {
     let alloc = rt.alloc();
-    let programme = two_scenarios(&rt, alloc)?;
-    let dict: Dense<Frac64> = ran(&rt, alloc, &programme, 4, end_of_four(4))?;
+    let dict: Dense<Frac64> = ran(&rt, alloc, &two_scenarios(&rt, alloc), 4, end_of_four(4));
     values_are(&rt, &dict, &[(1, (4, 9)), (2, (5, 9)), (3, (16, 3))]);
-    Ok(())
 }
 
 #[test]
-fn a_budget_is_spent_exactly(rt: HostRuntime) -> Result<(), Fail> {
+fn a_budget_is_spent_exactly(rt: HostRuntime) {
     let alloc = rt.alloc();
-    let programme = two_scenarios(&rt, alloc)?;
+    let programme = two_scenarios(&rt, alloc);
     for budget in [3, 4, 100000] {
-        let _dict: Dense<Frac128> = ran(&rt, alloc, &programme, budget, end_of_four(budget))?;
+        comes_to::<Frac128, Dense<Frac128>>(&rt, alloc, &programme, budget, end_of_four(budget));
     }
-    Ok(())
 }
 
 #[test]
-fn a_run_that_leaves_64_bits_goes_on_at_128(rt: HostRuntime) -> Result<(), Fail> {
+fn a_run_that_leaves_64_bits_goes_on_at_128(rt: HostRuntime) {
     let alloc = rt.alloc();
-    let programme = leaves_64(&rt, alloc)?;
+    let programme = leaves_64(&rt, alloc);
     let leaves = Err(RunFault::TooWide { pivot: 1 });
-    let _narrow: Dense<Frac64> = ran(&rt, alloc, &programme, 9, leaves)?;
+    comes_to::<Frac64, Dense<Frac64>>(&rt, alloc, &programme, 9, leaves);
     let two = End::Optimal { pivots: 2 };
-    let dict = ran_wide::<Dense<Frac64>, Dense<Frac128>>(&rt, alloc, &programme, 2, two)?;
+    let dict = ran_wide::<Dense<Frac64>, Dense<Frac128>>(&rt, alloc, &programme, 2, two);
     let wanted = [
         (1, (111111111111, 1111111111111111111)),
         (2, (1111111, 1111111111111111111)),
         (3, (0, 1)),
     ];
     values_are(&rt, &dict, &wanted);
-    Ok(())
 }
 
 /// How a run at two widths ends.
@@ -323,28 +332,26 @@ fn refused_at<const A: u64, const B: u64>(
 }
 
 #[test]
-fn want_of_memory_is_handed_on_from_both_widths(rt: HostRuntime) -> Result<(), Fail> {
+fn want_of_memory_is_handed_on_from_both_widths(rt: HostRuntime) {
     let alloc = rt.alloc();
-    let narrow = two_scenarios(&rt, alloc)?;
+    let narrow = two_scenarios(&rt, alloc);
     let none = Err(RunFault::NoMemory);
     refused_at::<1, 0>(&rt, alloc, &narrow, none);
     refused_at::<4, 0>(&rt, alloc, &narrow, none);
     refused_at::<5, 0>(&rt, alloc, &narrow, end_of_four(100000));
     refused_at::<0, 1>(&rt, alloc, &narrow, end_of_four(100000));
-    let wide = leaves_128(&rt, alloc)?;
+    let wide = leaves_128(&rt, alloc);
     refused_at::<0, 1>(&rt, alloc, &wide, none);
     refused_at::<0, 0>(&rt, alloc, &wide, Err(RunFault::TooWide { pivot: 2 }));
-    Ok(())
 }
 
 #[test]
-fn a_run_without_memory_stands_after_its_last_pivot(rt: HostRuntime) -> Result<(), Fail> {
+fn a_run_without_memory_stands_after_its_last_pivot(rt: HostRuntime) {
     let alloc = rt.alloc();
-    let programme = two_scenarios(&rt, alloc)?;
+    let programme = two_scenarios(&rt, alloc);
     let none = Err(RunFault::NoMemory);
-    let refused = basics_after::<Frac64, Refuse<Frac64, 3>>(&rt, alloc, &programme, 9, none)?;
+    let refused = basics_after::<Frac64, Refuse<Frac64, 3>>(&rt, alloc, &programme, 9, none);
     let spent = end_of_four(2);
-    let twice = basics_after::<Frac64, Dense<Frac64>>(&rt, alloc, &programme, 2, spent)?;
+    let twice = basics_after::<Frac64, Dense<Frac64>>(&rt, alloc, &programme, 2, spent);
     is_same(&rt, refused.as_slice(), twice.as_slice());
-    Ok(())
 }
