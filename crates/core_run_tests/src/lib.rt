@@ -16,4 +16,6 @@ mod rules;
 #[cfg(test)]
 mod runs;
 #[cfg(test)]
+mod same;
+#[cfg(test)]
 mod sparse;

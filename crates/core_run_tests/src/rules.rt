@@ -2,6 +2,7 @@ ghost use Rattle.std.specs.Prelude.{◌≡◌, ◌≤◌, ◌^◌, length, unsig
 ghost use Rattle.core_rules.specs.Candidates.{before, IsRanked};
 ghost use Rattle.core_rules.specs.Kept.{candidate_of, rule_by, rule_view, Keeps};
 
+use crate::same::is_same;
 use core_rules::{Cand, Ranks, Rule};
 use exact_frac::{Exact, Frac128};
 use std::process::Abort;
@@ -38,9 +39,9 @@ fn numbers_choose_among_four(rt: HostRuntime) {
         next.value < kept.value || (next.value == kept.value && next.var < kept.var)
     });
     let last = Rule::keep(2, |_kept: &Cand, _next: &Cand| true);
-    assert_eq!(rt; (variable.id(), chosen(&rt, &variable)), (0, 3));
-    assert_eq!(rt; (value.id(), chosen(&rt, &value)), (1, 5));
-    assert_eq!(rt; (last.id(), chosen(&rt, &last)), (2, 7));
+    is_same(&rt, (variable.id(), chosen(&rt, &variable)), (0, 3));
+    is_same(&rt, (value.id(), chosen(&rt, &value)), (1, 5));
+    is_same(&rt, (last.id(), chosen(&rt, &last)), (2, 7));
 }
 
 // Variable 9, which no other number chooses, has the least rank of the four.
@@ -50,7 +51,11 @@ fn ranks_choose_among_four(rt: HostRuntime) -> Result<(), Fail> {
     ranks.set(3, 2);
     ranks.set(5, 255);
     ranks.set(7, 2);
-    assert_eq!(rt; (ranks.len(), ranks.rank(5), ranks.rank(9)), (9, 255, 0));
+    is_same(
+        &rt,
+        (ranks.len(), ranks.rank(5), ranks.rank(9)),
+        (9, 255, 0),
+    );
     let rule = Rule::keep_ranks(
         &ranks,
         |kept: &Cand, next: &Cand| -> bool
@@ -63,6 +68,6 @@ fn ranks_choose_among_four(rt: HostRuntime) -> Result<(), Fail> {
             new < old || (new == old && next.var < kept.var)
         },
     );
-    assert_eq!(rt; (rule.id(), chosen(&rt, &rule)), (3, 9));
+    is_same(&rt, (rule.id(), chosen(&rt, &rule)), (3, 9));
     Ok(())
 }

@@ -2,17 +2,18 @@
 ghost use Rattle.std.specs.Prelude.{IfOk};
 ghost use Rattle.core_dict.specs.Dictionary.{CostsNotNegative};
 
+use crate::exact::pair;
 use crate::refuse::Refuse;
-use core_dict::{Dense, Programme, Store};
-use core_rules::{Cand, Ranks, Rule};
-use core_run::{End, RunFault, run, run_wide};
+use crate::same::is_same;
+use core_dict::{Dense, Programme, Store, Widen};
+use core_rules::{Cand, Rule};
+use core_run::{End, Ran, RunFault, run, run_wide};
 use exact_frac::{Exact, Frac64, Frac128};
 use std::alloc::{AllocError, Global};
 use std::process::Abort;
-use std::test::Fail;
 
 /// A share sold on two days in two scenarios: its columns are what is closed on day 1 and on day 2, and the loss.
-pub(crate) const TWO_SCENARIOS: [([i64; 3], i64); 10] = [
+const TWO_SCENARIOS: [([i64; 3], i64); 10] = [
     ([1, 1, 0], 1),
     ([-1, -1, 0], -1),
     ([1, 0, 0], 1),
@@ -26,13 +27,10 @@ pub(crate) const TWO_SCENARIOS: [([i64; 3], i64); 10] = [
 ];
 
 /// Rows whose first pivot leaves 64 bits.
-pub(crate) const LEAVES_64: [([i64; 3], i64); 2] = [
-    ([-10000000, -1, 0], -1),
-    ([-1, -1000000000000, 0], -1),
-];
+const LEAVES_64: [([i64; 3], i64); 2] = [([-10000000, -1, 0], -1), ([-1, -1000000000000, 0], -1)];
 
 /// Two lines of collateral of the greatest sizes in two scenarios, whose second pivot leaves 128 bits.
-pub(crate) const LEAVES_128: [([i64; 3], i64); 6] = [
+const LEAVES_128: [([i64; 3], i64); 6] = [
     ([1, 0, 0], 1),
     ([0, 1, 0], 1),
     ([1, 0, 0], 1),
@@ -45,31 +43,62 @@ pub(crate) const LEAVES_128: [([i64; 3], i64); 6] = [
 ];
 
 /// Rows near the greatest number of 64 bits.
-pub(crate) const NEAR_62: [([i64; 4], i64); 3] = [
+const NEAR_62: [([i64; 4], i64); 3] = [
     ([-2305843009213693952, 0, 0, 0], -1),
     ([0, -2305843009213693951, 0, 0], -1),
     ([0, 0, -2305843009213693953, 0], -1),
 ];
+
+// sets the coefficient of a row in a column
+fn set(rt: &impl Abort, programme: &mut Programme, row: usize, col: usize, entry: i64) {
+    assert!(rt; row < programme.rows() && col < programme.cols());
+    assert!(rt; entry.unsigned_abs() <= 1 << 62);
+    programme.set(row, col, entry);
+}
+
+// sets the bound of a row
+fn set_bound(rt: &impl Abort, programme: &mut Programme, row: usize, bound: i64) {
+    assert!(rt; row < programme.rows() && bound.unsigned_abs() <= 1 << 62);
+    programme.set_bound(row, bound);
+}
 
 /// The programme of some rows with their bounds.
 pub(crate) fn programme<const N: usize>(
     rt: &impl Abort,
     alloc: Global,
     rows: &[([i64; N], i64)],
-) -> Result<Programme, Fail> {
+) -> Programme {
     assert!(rt; N >= 1 && N <= 65535 && rows.len() <= 65535);
-    let mut programme = Programme::make(alloc, rows.len(), N)?;
+    let mut programme = Programme::make(alloc, rows.len(), N).expect(rt, "memory");
     for (i, (entries, bound)) in rows.iter().enumerate() {
-        assert!(rt; i < programme.rows() && bound.unsigned_abs() <= 1 << 62);
-        programme.set_bound(i, *bound);
+        set_bound(rt, &mut programme, i, *bound);
         for (j, entry) in entries.iter().enumerate() {
-            assert!(rt;
-                i < programme.rows() && j < programme.cols() && entry.unsigned_abs() <= 1 << 62
-            );
-            programme.set(i, j, *entry);
+            set(rt, &mut programme, i, j, *entry);
         }
     }
-    Ok(programme)
+    programme
+}
+
+/// The programme of [`TWO_SCENARIOS`].
+pub(crate) fn two_scenarios(rt: &impl Abort, alloc: Global) -> Programme {
+    let programme = programme(rt, alloc, &TWO_SCENARIOS);
+    is_same(rt, (programme.rows(), programme.cols()), (10, 3));
+    programme
+}
+
+/// The programme of [`LEAVES_64`].
+pub(crate) fn leaves_64(rt: &impl Abort, alloc: Global) -> Programme {
+    programme(rt, alloc, &LEAVES_64)
+}
+
+/// The programme of [`LEAVES_128`].
+pub(crate) fn leaves_128(rt: &impl Abort, alloc: Global) -> Programme {
+    programme(rt, alloc, &LEAVES_128)
+}
+
+/// The programme of [`NEAR_62`].
+pub(crate) fn near_62(rt: &impl Abort, alloc: Global) -> Programme {
+    programme(rt, alloc, &NEAR_62)
 }
 
 /// The start dictionary of a programme.
@@ -83,9 +112,72 @@ pub(crate) fn started<E: Exact, D: Store<E>>(
     Ok(dict)
 }
 
-/// A fraction's numbers.
-fn pair<E: Exact>(f: E) -> (i128, i128) {
-    (f.num(), f.den())
+/// The same, where memory is there.
+pub(crate) fn start_of<E: Exact, D: Store<E>>(
+    rt: &impl Abort,
+    alloc: Global,
+    programme: &Programme,
+) -> D {
+    started(alloc, programme).expect(rt, "memory")
+}
+
+/// The dictionary that a run from the start by the least variable leaves, and what the run comes to.
+pub(crate) fn run_of<E: Exact, D: Store<E>>(
+    alloc: Global,
+    programme: &Programme,
+    budget: u64,
+) -> Result<(D, Result<End, RunFault>), AllocError> {
+    let rule = Rule::keep(0, |kept: &Cand, next: &Cand| next.var < kept.var);
+    let mut dict: D = started(alloc, programme)?;
+    let end = run(alloc, &mut dict, &rule, budget);
+    Ok((dict, end))
+}
+
+/// The dictionary that such a run leaves, where it comes to what is wanted.
+pub(crate) fn ran<E: Exact, D: Store<E>>(
+    rt: &impl Abort,
+    alloc: Global,
+    programme: &Programme,
+    budget: u64,
+    wanted: Result<End, RunFault>,
+) -> D {
+    let (dict, end) = run_of(alloc, programme, budget).expect(rt, "memory");
+    is_same(rt, end, wanted);
+    dict
+}
+
+/// Looks that such a run comes to what is wanted.
+fn comes_to<E: Exact, D: Store<E>>(
+    rt: &impl Abort,
+    alloc: Global,
+    programme: &Programme,
+    budget: u64,
+    wanted: Result<End, RunFault>,
+) {
+    let _dict: D = ran(rt, alloc, programme, budget, wanted);
+}
+
+/// Such a run at two widths.
+fn run_wide_of<N: Widen<W>, W: Store<Frac128>>(
+    alloc: Global,
+    programme: &Programme,
+    budget: u64,
+) -> Result<Ran<W>, RunFault> {
+    let rule = Rule::keep(0, |kept: &Cand, next: &Cand| next.var < kept.var);
+    run_wide::<N, W, _>(alloc, programme, &rule, budget)
+}
+
+/// The dictionary that such a run leaves, where it ends as is wanted.
+pub(crate) fn ran_wide<N: Widen<W>, W: Store<Frac128>>(
+    rt: &impl Abort,
+    alloc: Global,
+    programme: &Programme,
+    budget: u64,
+    wanted: End,
+) -> W {
+    let ran = run_wide_of::<N, W>(alloc, programme, budget).expect(rt, "an end");
+    is_same(rt, ran.end, wanted);
+    ran.dict
 }
 
 /// The value of a variable: 0 where it is not basic.
@@ -98,24 +190,29 @@ fn value_of<E: Exact, D: Store<E>>(dict: &D, variable: u32) -> (i128, i128) {
     (0, 1)
 }
 
+/// Looks that variables have these values.
+fn values_are<E: Exact, D: Store<E>>(rt: &impl Abort, dict: &D, wanted: &[(u32, (i128, i128))]) {
+    for (variable, value) in wanted {
+        is_same(rt, value_of(dict, *variable), *value);
+    }
+}
+
 /// Three rows whose columns enter one after the other, with no number above 2^62.
-fn each_column_enters<E: Exact, D: Store<E>>(rt: &impl Abort, alloc: Global) -> Result<(), Fail> {
-    let programme = programme(rt, alloc, &NEAR_62)?;
-    let rule = Rule::keep(0, |kept: &Cand, next: &Cand| next.var < kept.var);
-    let mut dict: D = started(alloc, &programme)?;
-    let end = run(alloc, &mut dict, &rule, 100000);
-    assert_eq!(rt; end, Ok(End::Optimal { pivots: 3 }));
-    assert_eq!(rt; value_of(&dict, 1), (1, 2305843009213693952));
-    assert_eq!(rt; value_of(&dict, 2), (1, 2305843009213693951));
-    assert_eq!(rt; value_of(&dict, 3), (1, 2305843009213693953));
-    Ok(())
+fn each_column_enters<E: Exact, D: Store<E>>(rt: &impl Abort, alloc: Global) {
+    let three = Ok(End::Optimal { pivots: 3 });
+    let dict: D = ran(rt, alloc, &near_62(rt, alloc), 100000, three);
+    let wanted = [
+        (1, (1, 2305843009213693952)),
+        (2, (1, 2305843009213693951)),
+        (3, (1, 2305843009213693953)),
+    ];
+    values_are(rt, &dict, &wanted);
 }
 
 #[test]
-fn a_run_near_the_greatest_numbers(rt: HostRuntime) -> Result<(), Fail> {
-    each_column_enters::<Frac64, Dense<Frac64>>(&rt, rt.alloc())?;
-    each_column_enters::<Frac128, Dense<Frac128>>(&rt, rt.alloc())?;
-    Ok(())
+fn a_run_near_the_greatest_numbers(rt: HostRuntime) {
+    each_column_enters::<Frac64, Dense<Frac64>>(&rt, rt.alloc());
+    each_column_enters::<Frac128, Dense<Frac128>>(&rt, rt.alloc());
 }
 
 /// The basic variables, by row.
@@ -127,111 +224,134 @@ fn basics<E: Exact, D: Store<E>>(alloc: Global, dict: &D) -> Result<Vec<u32>, Al
     Ok(variables)
 }
 
-/// The variable that stands in some row of the one dictionary and in none of the other.
-fn entered<E: Exact, D: Store<E>>(dict: &D, before: &[u32]) -> Option<u32> {
-    (0..dict.rows())
-        .map(|i| dict.basic(i))
-        .find(|variable| !before.contains(variable))
-}
-
-#[test]
-fn the_variables_of_two_scenarios_enter_in_turn(rt: HostRuntime) -> Result<(), Fail> {
-    let alloc = rt.alloc();
-    let programme = programme(&rt, alloc, &TWO_SCENARIOS)?;
-    let rule = Rule::keep(0, |kept: &Cand, next: &Cand| next.var < kept.var);
-    let mut dict: Dense<Frac64> = started(alloc, &programme)?;
-    // the column of day 1, the slack of row 2, the loss, the column of day 2
-    for (budget, wanted) in [(1, 1), (2, 5), (3, 3), (4, 2)] {
-        let before = basics(alloc, &dict)?;
-        dict = started(alloc, &programme)?;
-        let _end = run(alloc, &mut dict, &rule, budget);
-        assert_eq!(rt; entered(&dict, &before), Some(wanted));
-    }
-    assert_eq!(rt; value_of(&dict, 1), (4, 9));
-    assert_eq!(rt; value_of(&dict, 2), (5, 9));
-    assert_eq!(rt; value_of(&dict, 3), (16, 3));
-    Ok(())
-}
-
-#[test]
-fn a_budget_is_spent_exactly(rt: HostRuntime) -> Result<(), Fail> {
-    let alloc = rt.alloc();
-    let programme = programme(&rt, alloc, &TWO_SCENARIOS)?;
-    let rule = Rule::keep(0, |kept: &Cand, next: &Cand| next.var < kept.var);
-    let rows = [
-        (3, Err(RunFault::Spent { pivots: 3 })),
-        (4, Ok(End::Optimal { pivots: 4 })),
-        (100000, Ok(End::Optimal { pivots: 4 })),
-    ];
-    for (budget, wanted) in rows {
-        let mut dict: Dense<Frac128> = started(alloc, &programme)?;
-        assert_eq!(rt; run(alloc, &mut dict, &rule, budget), wanted, "{budget}");
-    }
-    Ok(())
-}
-
-#[test]
-fn a_run_that_leaves_64_bits_goes_on_at_128(rt: HostRuntime) -> Result<(), Fail> {
-    let alloc = rt.alloc();
-    let programme = programme(&rt, alloc, &LEAVES_64)?;
-    let rule = Rule::keep(0, |kept: &Cand, next: &Cand| next.var < kept.var);
-    let mut narrow: Dense<Frac64> = started(alloc, &programme)?;
-    assert_eq!(rt;
-        run(alloc, &mut narrow, &rule, 9),
-        Err(RunFault::TooWide { pivot: 1 })
-    );
-    let ran = run_wide::<Dense<Frac64>, Dense<Frac128>, _>(alloc, &programme, &rule, 2)?;
-    assert_eq!(rt; ran.end, End::Optimal { pivots: 2 });
-    assert_eq!(rt; value_of(&ran.dict, 1), (111111111111, 1111111111111111111));
-    assert_eq!(rt; value_of(&ran.dict, 2), (1111111, 1111111111111111111));
-    assert_eq!(rt; value_of(&ran.dict, 3), (0, 1));
-    Ok(())
-}
-
-/// What the run of a programme comes to where memory is refused at one pivot of 64 bits, or at one of 128.
-fn refused_at<const N: usize, const A: u64, const B: u64>(
+/// Those that a run leaves, where it comes to what is wanted.
+fn basics_after<E: Exact, D: Store<E>>(
     rt: &impl Abort,
     alloc: Global,
-    rows: &[([i64; N], i64)],
-) -> Result<Result<End, RunFault>, Fail> {
-    let programme = programme(rt, alloc, rows)?;
-    let rule = Rule::keep(0, |kept: &Cand, next: &Cand| next.var < kept.var);
-    let ran = run_wide::<Refuse<Frac64, A>, Refuse<Frac128, B>, _>(
-        alloc, &programme, &rule, 100000,
-    );
-    Ok(ran.map(|ran| ran.end))
+    programme: &Programme,
+    budget: u64,
+    wanted: Result<End, RunFault>,
+) -> Vec<u32> {
+    let dict: D = ran(rt, alloc, programme, budget, wanted);
+    basics(alloc, &dict).expect(rt, "memory")
+}
+
+/// The first variable that is none of those before.
+fn entered(variables: &[u32], before: &[u32]) -> Option<u32> {
+    for variable in variables {
+        if !before.contains(variable) {
+            return Some(*variable);
+        }
+    }
+    None
+}
+
+/// What the run of the two scenarios comes to, which ends after four pivots.
+fn end_of_four(budget: u64) -> Result<End, RunFault> {
+    if budget < 4 {
+        return Err(RunFault::Spent { pivots: budget });
+    }
+    Ok(End::Optimal { pivots: 4 })
 }
 
 #[test]
-fn want_of_memory_is_handed_on_from_both_widths(rt: HostRuntime) -> Result<(), Fail> {
+fn the_variables_of_two_scenarios_enter_in_turn(rt: HostRuntime) {
     let alloc = rt.alloc();
-    let four = Ok(End::Optimal { pivots: 4 });
+    let programme = two_scenarios(&rt, alloc);
+    let mut before = basics_after::<Frac64, Dense<Frac64>>(
+        &rt,
+        alloc,
+        &programme,
+        0,
+        end_of_four(0),
+    );
+    // the column of day 1, the slack of row 2, the loss, the column of day 2
+    for (budget, wanted) in [(1, 1), (2, 5), (3, 3), (4, 2)] {
+        let after = basics_after::<Frac64, Dense<Frac64>>(
+            &rt,
+            alloc,
+            &programme,
+            budget,
+            end_of_four(budget),
+        );
+        is_same(&rt, entered(&after, &before), Some(wanted));
+        before = after;
+    }
+}
+
+#[test]
+fn the_values_of_two_scenarios(rt: HostRuntime) {
+    let alloc = rt.alloc();
+    let dict: Dense<Frac64> = ran(&rt, alloc, &two_scenarios(&rt, alloc), 4, end_of_four(4));
+    values_are(&rt, &dict, &[(1, (4, 9)), (2, (5, 9)), (3, (16, 3))]);
+}
+
+#[test]
+fn a_budget_is_spent_exactly(rt: HostRuntime) {
+    let alloc = rt.alloc();
+    let programme = two_scenarios(&rt, alloc);
+    for budget in [3, 4, 100000] {
+        comes_to::<Frac128, Dense<Frac128>>(&rt, alloc, &programme, budget, end_of_four(budget));
+    }
+}
+
+#[test]
+fn a_run_that_leaves_64_bits_goes_on_at_128(rt: HostRuntime) {
+    let alloc = rt.alloc();
+    let programme = leaves_64(&rt, alloc);
+    let leaves = Err(RunFault::TooWide { pivot: 1 });
+    comes_to::<Frac64, Dense<Frac64>>(&rt, alloc, &programme, 9, leaves);
+    let two = End::Optimal { pivots: 2 };
+    let dict = ran_wide::<Dense<Frac64>, Dense<Frac128>>(&rt, alloc, &programme, 2, two);
+    let wanted = [
+        (1, (111111111111, 1111111111111111111)),
+        (2, (1111111, 1111111111111111111)),
+        (3, (0, 1)),
+    ];
+    values_are(&rt, &dict, &wanted);
+}
+
+/// How a run at two widths ends.
+fn end_of<N: Widen<W>, W: Store<Frac128>>(
+    alloc: Global,
+    programme: &Programme,
+) -> Result<End, RunFault> {
+    let ran = run_wide_of::<N, W>(alloc, programme, 100000)?;
+    Ok(ran.end)
+}
+
+/// Looks what the run of a programme comes to where memory is refused at one pivot of 64 bits, or at one of 128.
+fn refused_at<const A: u64, const B: u64>(
+    rt: &impl Abort,
+    alloc: Global,
+    programme: &Programme,
+    wanted: Result<End, RunFault>,
+) {
+    let end = end_of::<Refuse<Frac64, A>, Refuse<Frac128, B>>(alloc, programme);
+    is_same(rt, end, wanted);
+}
+
+#[test]
+fn want_of_memory_is_handed_on_from_both_widths(rt: HostRuntime) {
+    let alloc = rt.alloc();
+    let narrow = two_scenarios(&rt, alloc);
     let none = Err(RunFault::NoMemory);
-    assert_eq!(rt; refused_at::<3, 1, 0>(&rt, alloc, &TWO_SCENARIOS)?, none);
-    assert_eq!(rt; refused_at::<3, 4, 0>(&rt, alloc, &TWO_SCENARIOS)?, none);
-    assert_eq!(rt; refused_at::<3, 5, 0>(&rt, alloc, &TWO_SCENARIOS)?, four);
-    assert_eq!(rt; refused_at::<3, 0, 1>(&rt, alloc, &TWO_SCENARIOS)?, four);
-    assert_eq!(rt; refused_at::<3, 0, 1>(&rt, alloc, &LEAVES_128)?, none);
-    let wide = Err(RunFault::TooWide { pivot: 2 });
-    assert_eq!(rt; refused_at::<3, 0, 0>(&rt, alloc, &LEAVES_128)?, wide);
-    Ok(())
+    refused_at::<1, 0>(&rt, alloc, &narrow, none);
+    refused_at::<4, 0>(&rt, alloc, &narrow, none);
+    refused_at::<5, 0>(&rt, alloc, &narrow, end_of_four(100000));
+    refused_at::<0, 1>(&rt, alloc, &narrow, end_of_four(100000));
+    let wide = leaves_128(&rt, alloc);
+    refused_at::<0, 1>(&rt, alloc, &wide, none);
+    refused_at::<0, 0>(&rt, alloc, &wide, Err(RunFault::TooWide { pivot: 2 }));
 }
 
 #[test]
-fn a_run_without_memory_stands_after_its_last_pivot(rt: HostRuntime) -> Result<(), Fail> {
+fn a_run_without_memory_stands_after_its_last_pivot(rt: HostRuntime) {
     let alloc = rt.alloc();
-    let programme = programme(&rt, alloc, &TWO_SCENARIOS)?;
-    let rule = Rule::keep(0, |kept: &Cand, next: &Cand| next.var < kept.var);
-    let mut refused: Refuse<Frac64, 3> = started(alloc, &programme)?;
-    assert_eq!(rt; run(alloc, &mut refused, &rule, 9), Err(RunFault::NoMemory));
-    let mut twice: Dense<Frac64> = started(alloc, &programme)?;
-    assert_eq!(rt;
-        run(alloc, &mut twice, &rule, 2),
-        Err(RunFault::Spent { pivots: 2 })
-    );
-    assert_eq!(rt;
-        basics(alloc, &refused)?.as_slice(),
-        basics(alloc, &twice)?.as_slice()
-    );
-    Ok(())
+    let programme = two_scenarios(&rt, alloc);
+    let none = Err(RunFault::NoMemory);
+    let refused = basics_after::<Frac64, Refuse<Frac64, 3>>(&rt, alloc, &programme, 9, none);
+    let spent = end_of_four(2);
+    let twice = basics_after::<Frac64, Dense<Frac64>>(&rt, alloc, &programme, 2, spent);
+    is_same(&rt, refused.as_slice(), twice.as_slice());
 }

@@ -1,141 +1,145 @@
 // Dictionaries that keep the entries that are not 0, beside those that keep all.
-use crate::dict::pivot;
-use crate::runs::{LEAVES_64, LEAVES_128, NEAR_62, TWO_SCENARIOS, programme, started};
-use core_dict::{Dense, PivotFault, Programme, Shift, Store, Widen};
-use core_rules::{Cand, Rule};
-use core_run::{End, RunFault, run, run_wide};
+use crate::dict::{pivot_all, text_of, widened};
+use crate::exact::pair;
+use crate::runs::{leaves_64, leaves_128, near_62, ran_wide, run_of, start_of, two_scenarios};
+use crate::same::is_same;
+use core_dict::{Dense, Programme, Shift, Store, Widen};
+use core_run::{End, RunFault};
 use core_sparse::Sparse;
 use exact_frac::{Exact, Frac64, Frac128};
 use std::alloc::{AllocError, Global};
 use std::process::Abort;
-use std::test::Fail;
 
-/// A fraction's numbers.
-fn pair<E: Exact>(f: E) -> (i128, i128) {
-    (f.num(), f.den())
-}
-
-/// The columns and the numbers of a row's items.
-fn items_of<E: Exact>(
+/// Looks that a row has these items, each a column and its numbers.
+fn items_are<E: Exact>(
     rt: &impl Abort,
-    alloc: Global,
     dict: &Sparse<E>,
     row: usize,
-) -> Result<Vec<(usize, (i128, i128))>, AllocError> {
+    wanted: &[(usize, (i128, i128))],
+) {
     assert!(rt; row < dict.rows());
-    let mut items = Vec::new(alloc);
-    for item in dict.row(row) {
-        items.push((item.col, pair(item.value)))?;
+    let items = dict.row(row);
+    is_same(rt, items.len(), wanted.len());
+    for (item, wanted) in items.iter().zip(wanted) {
+        is_same(rt, (item.col, pair(item.value)), *wanted);
     }
-    Ok(items)
 }
 
 #[test]
-fn the_items_of_the_start(rt: HostRuntime) -> Result<(), Fail> {
+fn the_items_of_the_start(rt: HostRuntime) {
     let alloc = rt.alloc();
-    let programme = programme(&rt, alloc, &TWO_SCENARIOS)?;
-    let dict: Sparse<Frac64> = started(alloc, &programme)?;
-    let first = items_of(&rt, alloc, &dict, 0)?;
-    assert_eq!(rt; first.as_slice(), [(0, (1, 1)), (1, (1, 1))].as_slice());
-    let third = items_of(&rt, alloc, &dict, 2)?;
-    assert_eq!(rt; third.as_slice(), [(0, (1, 1))].as_slice());
-    Ok(())
+    let dict: Sparse<Frac64> = start_of(&rt, alloc, &two_scenarios(&rt, alloc));
+    items_are(&rt, &dict, 0, &[(0, (1, 1)), (1, (1, 1))]);
+    items_are(&rt, &dict, 2, &[(0, (1, 1))]);
 }
 
-/// The values of the rows.
-fn values_of<E: Exact, D: Store<E>>(
+/// The text of the dictionary that a run leaves, and what the run comes to.
+fn text_after<E: Exact, D: Store<E>>(
     alloc: Global,
-    dict: &D,
-) -> Result<Vec<(i128, i128)>, AllocError> {
-    let mut values = Vec::with_capacity(alloc, dict.rows())?;
-    for i in 0..dict.rows() {
-        values.push(pair(dict.value(i)))?;
-    }
-    Ok(values)
+    programme: &Programme,
+    budget: u64,
+) -> Result<(String, Result<End, RunFault>), AllocError> {
+    let (dict, end) = run_of::<E, D>(alloc, programme, budget)?;
+    Ok((text_of(alloc, &dict)?, end))
 }
 
-/// Looks that two dictionaries are the same, number by number.
-fn are_same<E: Exact, A: Store<E>, B: Store<E>>(rt: &impl Abort, one: &A, other: &B) {
-    assert_eq!(rt; (one.rows(), one.cols()), (other.rows(), other.cols()));
-    for i in 0..one.rows() {
-        assert!(rt; i < other.rows());
-        assert_eq!(rt; one.basic(i), other.basic(i));
-        assert_eq!(rt; pair(one.value(i)), pair(other.value(i)));
-        for j in 0..one.cols() {
-            assert!(rt; j < other.cols());
-            assert_eq!(rt; pair(one.entry(i, j)), pair(other.entry(i, j)));
-        }
-    }
-    for j in 0..one.cols() {
-        assert!(rt; j < other.cols());
-        assert_eq!(rt; one.nonbasic(j), other.nonbasic(j));
-        assert_eq!(rt; pair(one.cost(j)), pair(other.cost(j)));
-    }
-}
-
-/// What the run of a programme comes to with a budget, over two kinds of dictionaries that are the same after each pivot.
+/// What the run of a programme comes to with a budget, over two kinds of dictionaries that are the same afterwards,
+/// number by number.
 fn run_is_same<E: Exact, A: Store<E>, B: Store<E>>(
     rt: &impl Abort,
     alloc: Global,
     programme: &Programme,
-    most: u64,
-) -> Result<Result<End, RunFault>, Fail> {
-    let rule = Rule::keep(0, |kept: &Cand, next: &Cand| next.var < kept.var);
-    let mut end = Err(RunFault::NoMemory);
-    for budget in 0..=most {
-        let mut one: A = started(alloc, programme)?;
-        let mut other: B = started(alloc, programme)?;
-        end = run(alloc, &mut one, &rule, budget);
-        assert_eq!(rt; end, run(alloc, &mut other, &rule, budget));
-        are_same(rt, &one, &other);
-    }
+    budget: u64,
+) -> Result<Result<End, RunFault>, AllocError> {
+    let (one, end) = text_after::<E, A>(alloc, programme, budget)?;
+    let (other, other_end) = text_after::<E, B>(alloc, programme, budget)?;
+    is_same(rt, end, other_end);
+    is_same(rt, one.as_str(), other.as_str());
     Ok(end)
 }
 
-/// What that run comes to at 64 and at 128 bits, over sparse dictionaries beside dense ones.
-fn ends_of(
+/// Looks that the runs with each budget are the same over sparse dictionaries as over dense ones, and what the last
+/// comes to.
+fn runs_are_same<E: Exact, A: Store<E>, B: Store<E>>(
     rt: &impl Abort,
     alloc: Global,
     programme: &Programme,
     most: u64,
-) -> Result<(Result<End, RunFault>, Result<End, RunFault>), Fail> {
-    let narrow = run_is_same::<Frac64, Sparse<Frac64>, Dense<Frac64>>(rt, alloc, programme, most)?;
-    let wide = run_is_same::<Frac128, Sparse<Frac128>, Dense<Frac128>>(rt, alloc, programme, most)?;
-    Ok((narrow, wide))
+    wanted: Result<End, RunFault>,
+) {
+    let mut end = Err(RunFault::NoMemory);
+    for budget in 0..=most {
+        end = run_is_same::<E, A, B>(rt, alloc, programme, budget).expect(rt, "memory");
+    }
+    is_same(rt, end, wanted);
+}
+
+/// Looks so at 64 and at 128 bits.
+fn both_are_same(
+    rt: &impl Abort,
+    alloc: Global,
+    programme: Programme,
+    most: u64,
+    narrow: Result<End, RunFault>,
+    wide: Result<End, RunFault>,
+) {
+    runs_are_same::<Frac64, Sparse<Frac64>, Dense<Frac64>>(rt, alloc, &programme, most, narrow);
+    runs_are_same::<Frac128, Sparse<Frac128>, Dense<Frac128>>(rt, alloc, &programme, most, wide);
 }
 
 #[test]
-fn runs_are_those_of_dense_dictionaries(rt: HostRuntime) -> Result<(), Fail> {
+fn runs_are_those_of_dense_dictionaries(rt: HostRuntime) {
     let alloc = rt.alloc();
-    let ends = ends_of(&rt, alloc, &programme(&rt, alloc, &TWO_SCENARIOS)?, 4)?;
     let four = Ok(End::Optimal { pivots: 4 });
-    assert_eq!(rt; ends, (four, four));
-    let ends = ends_of(&rt, alloc, &programme(&rt, alloc, &NEAR_62)?, 3)?;
+    both_are_same(&rt, alloc, two_scenarios(&rt, alloc), 4, four, four);
     let three = Ok(End::Optimal { pivots: 3 });
-    assert_eq!(rt; ends, (three, three));
-    let ends = ends_of(&rt, alloc, &programme(&rt, alloc, &LEAVES_64)?, 2)?;
+    both_are_same(&rt, alloc, near_62(&rt, alloc), 3, three, three);
     let leaves = Err(RunFault::TooWide { pivot: 1 });
-    assert_eq!(rt; ends, (leaves, Ok(End::Optimal { pivots: 2 })));
-    let ends = ends_of(&rt, alloc, &programme(&rt, alloc, &LEAVES_128)?, 2)?;
-    assert_eq!(rt; ends, (leaves, Err(RunFault::TooWide { pivot: 2 })));
-    Ok(())
+    both_are_same(
+        &rt,
+        alloc,
+        leaves_64(&rt, alloc),
+        2,
+        leaves,
+        Ok(End::Optimal { pivots: 2 }),
+    );
+    both_are_same(
+        &rt,
+        alloc,
+        leaves_128(&rt, alloc),
+        2,
+        leaves,
+        Err(RunFault::TooWide { pivot: 2 }),
+    );
+}
+
+/// The bound of a row of the programme grows by a number.
+fn shift<D: Shift>(rt: &impl Abort, alloc: Global, dict: &mut D, row: usize, by: i64) {
+    assert!(rt; row < dict.rows() && by.unsigned_abs() <= 1 << 62);
+    is_same(rt, dict.shift(alloc, row, by), Ok(()));
+}
+
+/// Looks that the rows have these values.
+fn values_are<E: Exact, D: Store<E>>(rt: &impl Abort, dict: &D, wanted: &[(i128, i128)]) {
+    is_same(rt, dict.rows(), wanted.len());
+    for (i, value) in wanted.iter().enumerate() {
+        assert!(rt; i < dict.rows());
+        is_same(rt, pair(dict.value(i)), *value);
+    }
 }
 
 #[test]
-fn a_shift_moves_each_value_by_its_slacks_coefficient(rt: HostRuntime) -> Result<(), Fail> {
+fn a_shift_moves_each_value_by_its_slacks_coefficient(rt: HostRuntime) {
     let alloc = rt.alloc();
-    let programme = programme(&rt, alloc, &TWO_SCENARIOS)?;
-    let mut dict: Sparse<Frac128> = started(alloc, &programme)?;
-    assert!(rt; dict.rows() == 10);
+    let mut dict: Sparse<Frac128> = start_of(&rt, alloc, &two_scenarios(&rt, alloc));
     // the slack of row 6 is basic in that row alone
-    assert_eq!(rt; dict.shift(alloc, 6, 3), Ok(()));
+    shift(&rt, alloc, &mut dict, 6, 3);
     let moved = [1, -1, 1, 1, 0, 0, -7, 0, 0, -10].map(|value| (value, 1));
-    assert_eq!(rt; values_of(alloc, &dict)?.as_slice(), moved.as_slice());
+    values_are(&rt, &dict, &moved);
     // and after the pivot of row 6 it stands in column 0
-    assert_eq!(rt; dict.shift(alloc, 6, -3), Ok(()));
-    assert_eq!(rt; pivot(&rt, alloc, &mut dict, 6, 0), Ok(()));
-    assert!(rt; dict.rows() == 10);
-    assert_eq!(rt; dict.shift(alloc, 6, -8), Ok(()));
+    shift(&rt, alloc, &mut dict, 6, -3);
+    pivot_all(&rt, alloc, &mut dict, &[(6, 0)]);
+    shift(&rt, alloc, &mut dict, 6, -8);
     let moved = [
         (-5, 4),
         (5, 4),
@@ -148,25 +152,25 @@ fn a_shift_moves_each_value_by_its_slacks_coefficient(rt: HostRuntime) -> Result
         (27, 4),
         (-13, 4),
     ];
-    assert_eq!(rt; values_of(alloc, &dict)?.as_slice(), moved.as_slice());
-    Ok(())
+    values_are(&rt, &dict, &moved);
 }
 
 #[test]
-fn a_pivot_that_leaves_64_bits_changes_nothing(rt: HostRuntime) -> Result<(), Fail> {
+fn a_pivot_that_leaves_64_bits_changes_nothing(rt: HostRuntime) {
+    let _wide = widened::<Sparse<Frac64>, Sparse<Frac128>>(&rt, rt.alloc());
+}
+
+/// The text of the dictionary that a run at two widths leaves, which goes on at 128 bits.
+fn text_at_two_widths<N: Widen<W>, W: Store<Frac128>>(rt: &impl Abort, alloc: Global) -> String {
+    let two = End::Optimal { pivots: 2 };
+    let dict = ran_wide::<N, W>(rt, alloc, &leaves_64(rt, alloc), 2, two);
+    text_of(alloc, &dict).expect(rt, "memory")
+}
+
+#[test]
+fn a_run_at_two_widths_is_that_of_a_dense_dictionary(rt: HostRuntime) {
     let alloc = rt.alloc();
-    let programme = programme(&rt, alloc, &LEAVES_64)?;
-    let rule = Rule::keep(0, |kept: &Cand, next: &Cand| next.var < kept.var);
-    let before: Dense<Frac64> = started(alloc, &programme)?;
-    let mut dict: Sparse<Frac64> = started(alloc, &programme)?;
-    assert_eq!(rt; pivot(&rt, alloc, &mut dict, 0, 0), Err(PivotFault::Left));
-    are_same(&rt, &dict, &before);
-    let wide: Sparse<Frac128> = dict.widen(alloc)?;
-    let wide_before: Dense<Frac128> = before.widen(alloc)?;
-    are_same(&rt, &wide, &wide_before);
-    let ran = run_wide::<Sparse<Frac64>, Sparse<Frac128>, _>(alloc, &programme, &rule, 2)?;
-    assert_eq!(rt; ran.end, End::Optimal { pivots: 2 });
-    let dense = run_wide::<Dense<Frac64>, Dense<Frac128>, _>(alloc, &programme, &rule, 2)?;
-    are_same(&rt, &ran.dict, &dense.dict);
-    Ok(())
+    let sparse = text_at_two_widths::<Sparse<Frac64>, Sparse<Frac128>>(&rt, alloc);
+    let dense = text_at_two_widths::<Dense<Frac64>, Dense<Frac128>>(&rt, alloc);
+    is_same(&rt, sparse.as_str(), dense.as_str());
 }
