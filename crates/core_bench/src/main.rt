@@ -1,6 +1,7 @@
 //! Times what its words name: `core_bench fractions`, or for a file that is a case `core_bench reading CASE`,
 //! `core_bench margin CASE` or `core_bench pivots KIND CASE`, or `core_bench demo` for the margin of the demo case of 32
-//! futures, or `core_bench book CASE CERT` for a case and a certificate of it. It prints nothing without words.
+//! futures and `core_bench widest` for the widest number of its run, or `core_bench book CASE CERT` for a case and a
+//! certificate of it. It prints nothing without words.
 #![tactic(auto)]
 
 mod books;
@@ -10,6 +11,7 @@ mod margin;
 mod pivots;
 mod reading;
 mod timing;
+mod widest;
 
 use anyhow::{Result, bail};
 use core_gen::demo_case;
@@ -34,6 +36,7 @@ fn time<R: Print + AllocGlobal + CpuClock, S: Shelf>(
         [_, name] if name.as_str() == "fractions" => timing::run(rt),
         [_, name, file] if name.as_str() == "reading" => reading::run(rt, shelf, file.as_str()),
         [_, name] if name.as_str() == "demo" => margin::run(rt, &demo_case(rt.alloc(), 32)?),
+        [_, name] if name.as_str() == "widest" => widest::run(rt, &demo_case(rt.alloc(), 32)?),
         [_, name, file] if name.as_str() == "margin" => {
             margin::run(rt, &file::file_bytes(rt.alloc(), shelf, file.as_str())?)
         }
