@@ -103,6 +103,13 @@ impl Case {
         self.book.horizon
     }
 
+    /// It keeps the ranges and references of a well-formed case. Nothing is computed: a proof is told it here.
+    pub fn well_formed(&self)
+        ensures { IsCase self.now }
+    {
+        let _horizon = self.book.horizon;
+    }
+
     /// The last house day, from the horizon to 40.
     pub fn last(&self) -> u8
         ensures value { result ≡ self.now.last }

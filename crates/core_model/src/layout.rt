@@ -8,8 +8,8 @@ ghost use Rattle.core_model.specs.Layout.{IsClosingCell, IsPoolCell, IsScenarioC
 ghost use Rattle.core_model.specs.Layout.{full_weight, limit_weight, pool_weight, scenario_weight};
 
 use crate::cert::{Calendar, Weights};
-use crate::numbers::Numbers;
 use core_book::Case;
+use core_wide::Numbers;
 
 /// A line or an instrument, from 0, a closing day and a tier, both from 1.
 #[derive(Clone, Copy, Debug, PartialEq, Eq)]

@@ -1,5 +1,5 @@
 //! Sums and products of `i128` that say exactly when a number leaves 128 bits: where its absolute value is above
-//! 2^127 - 1. So the least `i128`, whose opposite is no `i128`, counts as outside.
+//! 2^127 - 1. So the least `i128`, whose opposite is no `i128`, counts as outside. [`Numbers`] is a list of such numbers.
 #![tactic(auto)]
 
 ghost use Rattle.std.specs.Prelude.{◌≡◌, ◌<◌, ◌+ℤ◌, ◌-ℤ◌, ◌*ℤ◌, neg_ℤ, true, false, FitsSigned, MatchOption};
@@ -7,6 +7,10 @@ ghost use mir.Syntax.{w128};
 ghost use Rattle.core_sums.specs.Sums.{partial_sums, total};
 ghost use Rattle.core_sums.specs.Widths.{any_leaves, IsKept};
 ghost use Rattle.core_wide.specs.Steps.{AddsEach, Leaves, Stays, with_number, with_product};
+
+mod numbers;
+
+pub use numbers::Numbers;
 
 /// The checked sum.
 fn added(x: i128, y: i128) -> Option<i128>
