@@ -1,6 +1,6 @@
 // What the check of a certificate does with its book: reading, flows, replay and judgement.
 ghost use Rattle.std.specs.Prelude.{◌≤◌, length, IfOk};
-ghost use Rattle.core_book.specs.Kept.{IsCase};
+ghost use Rattle.core_book.specs.WellFormed.{IsCase};
 ghost use Rattle.core_model.specs.Fits.{Fits};
 
 use crate::clock::spent;

@@ -1,6 +1,6 @@
 // The margin of a case, by step.
 ghost use Rattle.std.specs.Prelude.{◌≡◌, ◌≤◌, length};
-ghost use Rattle.core_rules.specs.Kept.{rule_view, plain_rule, Keeps};
+ghost use Rattle.core_rules.specs.Rules.{rule_view, plain_rule, Keeps};
 ghost use Rattle.core_lp.specs.Named.{named_of};
 ghost use Rattle.core_margin.specs.Last.{turn_of, IsReached};
 

@@ -1,6 +1,6 @@
 // The first pivots of the programme of a case.
 ghost use Rattle.std.specs.Prelude.{◌≡◌, ◌<◌};
-ghost use Rattle.core_rules.specs.Kept.{rule_view, plain_rule, Keeps};
+ghost use Rattle.core_rules.specs.Rules.{rule_view, plain_rule, Keeps};
 
 use crate::books::case_of;
 use crate::clock::spent;

@@ -1,7 +1,7 @@
 // The widest number of a run.
 ghost use Rattle.std.specs.Prelude.{◌≡◌, ◌≤◌, ◌<◌, length};
 ghost use Rattle.core_dict.specs.Dictionary.{CostsNotNegative};
-ghost use Rattle.core_rules.specs.Kept.{rule_view, plain_rule, Keeps};
+ghost use Rattle.core_rules.specs.Rules.{rule_view, plain_rule, Keeps};
 
 use crate::books::case_of;
 use anyhow::Result;

@@ -3,7 +3,7 @@ use Rattle.std.proofs.Common.{ℕ, zero, suc, ◌<◌, ◌≤◌, max, List, [],
 use Rattle.std.specs.List.{All}
 use Rattle.core_sums.specs.Places.{row_at}
 use Rattle.core_book.specs.View.{CaseView, TierView, tiers, tiers_of}
-use Rattle.core_book.specs.Kept.{IsCase, AreTiers}
+use Rattle.core_book.specs.WellFormed.{IsCase, AreTiers}
 
 -- the tiers of an instrument keep what tiers keep
 pub depth-kept : (c : CaseView) (i : ℕ) → IsCase c → i < length c.instruments → AreTiers c.horizon (row_at c.depth i)

@@ -7,7 +7,7 @@ use Rattle.core_days.specs.Days.{is_open_on, pay_day}
 use Rattle.core_days.proofs.PayDays.{pay_day-cong}
 use Rattle.jiff.specs.Words.{epoch_day}
 use Rattle.jiff.specs.Types.{Date}
-use Rattle.core_book.specs.Kept.{IsCase}
+use Rattle.core_book.specs.WellFormed.{IsCase}
 use Rattle.core_book.proofs.Depth.{depth-kept}
 use Rattle.core_book.specs.declared.book.Book.{Book}
 use Rattle.core_days.specs.Flags.{flag_at, AreOpenFlags}

@@ -4,7 +4,7 @@ use Rattle.jiff.specs.Words.{epoch_day}
 use Rattle.core_sums.specs.Places.{row_at}
 use Rattle.core_days.specs.Flags.{AreHouseDays, AreOpenFlags}
 use Rattle.core_book.specs.View.{CaseView, TierView, tiers}
-use Rattle.core_book.specs.Kept.{IsCase}
+use Rattle.core_book.specs.WellFormed.{IsCase}
 use Rattle.core_book.specs.declared.parts.Tier.{Tier}
 use Rattle.core_book.specs.declared.book.Book.{Book}
 use Rattle.core_book.specs.declared.case.Case.TheInside.{Inside}

@@ -1,3 +1,3 @@
 pub mod View
-pub mod Kept
+pub mod WellFormed
 pub mod Inside

@@ -72,7 +72,7 @@ fn open_days(
 impl Case {
     ghost use Rattle.std.specs.Prelude.{◌≡◌, ◌<◌, ◌≤◌, ℕ, suc, length};
     ghost use Rattle.core_days.specs.Flags.{flag_at};
-    ghost use Rattle.core_book.specs.Kept.{IsCase};
+    ghost use Rattle.core_book.specs.WellFormed.{IsCase};
     ghost use Rattle.core_sums.specs.Places.{row_at};
     ghost use Rattle.core_book.specs.View.{instrument, line, pool, member, tiers, tiers_of, cost, limit, price, cash, date, is_open, pays, counts, is_traded, is_allowed, instrument_of};
     ghost use Rattle.std.specs.Prelude.{IfOk};

@@ -16,7 +16,7 @@ use Rattle.core_case.specs.Kinds.{is_kind, number_in}
 use Rattle.core_case.specs.Faults.{first_fault, of_kind, filed, is_filed, is_future, names_future}
 use Rattle.core_book.specs.View.{instrument, no_instrument}
 use Rattle.core_case.specs.Stated.{case_of, declared_names, instrument_of_record, line_of_record}
-use Rattle.core_book.specs.Kept.{IsIn, IsLine}
+use Rattle.core_book.specs.WellFormed.{IsIn, IsLine}
 use Rattle.core_case.proofs.Filters.{All-map_filter_at, AllPairs-map_filter_at, find-take}
 use Rattle.core_rows.proofs.FirstStep.{holds-from_none, fails-from_none}
 use Rattle.core_case.proofs.FiledKeys.{one-kind}

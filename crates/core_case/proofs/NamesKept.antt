@@ -18,7 +18,7 @@ use Rattle.core_book.specs.declared.parts.Kind.TheVariants as kinds
 use Rattle.core_case.specs.Kinds.{HeadingView, is_kind, forms, expiry_forms, number_in, natural_in, key_length}
 use Rattle.core_case.specs.Faults.{first_fault, heading_of, form_fault, range_fault, is_future, has_expiry, of_kind, key_of, filed, is_declared, is_keyed, house_name}
 use Rattle.core_case.specs.Stated.{case_of, declared_names, market_names, holidays_of, instrument_of_record, pool_of_record, member_of_record}
-use Rattle.core_book.specs.Kept.{IsInstrument, IsMember, IsPool}
+use Rattle.core_book.specs.WellFormed.{IsInstrument, IsMember, IsPool}
 use Rattle.core_case.proofs.Filters.{All-map_filter_at, AllPairs-map_filter_at, AllPairs-cons}
 use Rattle.core_case.proofs.WholeRecords.{InForm, in-form, sound-of, number-between, natural-between}
 use Rattle.core_case.proofs.NamesSound.{same-bytes, bytes-same, named, keys-differ, names-differ, at-most}

@@ -3,7 +3,7 @@ use Rattle.std.proofs.Common.{◌≡◌, sym, ◌∙◌, ap, subst, ℕ, ◌<◌
 use Rattle.core_rows.specs.Names.{Record}
 use Rattle.core_rows.specs.Fields.{records}
 use Rattle.core_case.specs.Faults.{Faulty, first_fault, missing_end}
-use Rattle.core_book.specs.Kept.{IsCase}
+use Rattle.core_book.specs.WellFormed.{IsCase}
 use Rattle.core_case.specs.Refusals.{IsFault, RefusesBytes}
 use Rattle.core_case.specs.Stated.{case_of, case_of_bytes, case_unless}
 use Rattle.core_book.specs.View.{CaseView}

@@ -4,7 +4,7 @@ use Rattle.std.specs.List.{All, AllPairs}
 use Rattle.std.proofs.lemmas.List.{get_or-map, length-map}
 use Rattle.core_rows.specs.Names.{Record, field}
 use Rattle.core_rows.specs.Fields.{IsName}
-use Rattle.core_book.specs.Kept.{IsInstrument}
+use Rattle.core_book.specs.WellFormed.{IsInstrument}
 use Rattle.core_case.specs.Faults.{of_kind}
 use Rattle.core_case.specs.Stated.{declared_names, instrument_of_record, names_in, pool_of_record}
 use Rattle.core_case.specs.Whole.{IsWhole}

@@ -2,7 +2,7 @@
 use Rattle.std.proofs.Common.{◌≡◌, ℕ, ap, subst, Option, Some, None, Result, Ok, Err, refl}
 use Rattle.core_rows.specs.Fields.{records}
 use Rattle.core_book.specs.View.{CaseView}
-use Rattle.core_book.specs.Kept.{IsCase}
+use Rattle.core_book.specs.WellFormed.{IsCase}
 use Rattle.core_case.specs.Faults.{Faulty, first_fault}
 use Rattle.core_case.specs.Stated.{case_of, case_of_bytes, case_unless}
 use Rattle.core_case.specs.Laws.{StatedCasesAreWhole}

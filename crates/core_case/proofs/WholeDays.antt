@@ -13,7 +13,7 @@ use Rattle.core_rows.specs.Names.{Record, field}
 use Rattle.core_rows.specs.Fields.{day_of}
 use Rattle.core_case.specs.declared.kinds.RecordKind.TheVariants.{House, Market, Holiday, Cash}
 use Rattle.core_case.specs.Kinds.{is_kind, number_in}
-use Rattle.core_book.specs.Kept.{IsIn, IsStart, IsHoliday, AreIn}
+use Rattle.core_book.specs.WellFormed.{IsIn, IsStart, IsHoliday, AreIn}
 use Rattle.core_case.specs.Faults.{first_fault, first_date, last_start, last_holiday, heading_of, of_kind, is_in_group, count_in}
 use Rattle.core_case.specs.Stated.{case_of, day_in, holidays_of, market_names, declared_names, cash_on}
 use Rattle.core_case.proofs.SoundRecord.{SoundRecord}

@@ -16,7 +16,7 @@ use Rattle.core_case.specs.declared.kinds.RecordKind.TheVariants.{Instrument, Li
 use Rattle.core_case.specs.declared.forms.Form.{Form}
 use Rattle.core_case.specs.declared.forms.Form.TheVariants.{Version, Name, Number}
 use Rattle.core_case.specs.Kinds.{is_kind, number_in, cost_form}
-use Rattle.core_book.specs.Kept.{IsIn, IsTier, AreTiers, AreIn, ArePaths}
+use Rattle.core_book.specs.WellFormed.{IsIn, IsTier, AreTiers, AreIn, ArePaths}
 use Rattle.core_case.specs.Faults.{first_fault, form_fault, range_fault, heading_of, of_kind, is_filed, filed, has_limit, has_path, is_complete}
 use Rattle.core_case.specs.Stated.{case_of, declared_names, instrument_of_record, numbers_from, limits_of, first_tier, tier_of_record, tiers_among, depth_of, prices_of}
 use Rattle.core_case.proofs.Filters.{All-filter_at, kept-at, stood-at, found-at, find-take}

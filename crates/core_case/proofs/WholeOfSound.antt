@@ -2,7 +2,7 @@
 use Rattle.std.proofs.Common.{◌≡◌, List, None}
 use Rattle.core_rows.specs.Names.{Record}
 use Rattle.core_case.specs.Faults.{first_fault}
-use Rattle.core_book.specs.Kept.{IsCase}
+use Rattle.core_book.specs.WellFormed.{IsCase}
 use Rattle.core_case.specs.Stated.{case_of}
 use Rattle.core_case.specs.Whole.{IsWhole}
 use Rattle.core_case.proofs.WholeDays.{start-kept, horizon-kept, last-kept, holidays-kept, cash-kept}

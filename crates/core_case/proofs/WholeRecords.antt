@@ -13,7 +13,7 @@ use Rattle.core_case.specs.declared.kinds.RecordKind.{RecordKind}
 use Rattle.core_case.specs.declared.kinds.RecordKind.TheVariants.{Core, House, End}
 use Rattle.core_case.specs.declared.forms.Form.TheVariants.{Version, Number}
 use Rattle.core_case.specs.Kinds.{HeadingView, is_kind, forms, number_in, natural_in, most_records}
-use Rattle.core_book.specs.Kept.{IsIn}
+use Rattle.core_book.specs.WellFormed.{IsIn}
 use Rattle.core_case.specs.Faults.{first_fault, form_fault, range_fault, is_between, heading_of, is_core_or_house, is_house, of_kind, order_step, group_of, is_in_group, is_below, count_in, has_room, is_filed, is_complete}
 use Rattle.core_case.proofs.SoundRecord.{SoundRecord, sound-at, by-one-more, ended, first-core}
 use Rattle.core_rows.proofs.FirstStep.{holds-from_none}

@@ -1,7 +1,7 @@
 // Reading a case.
 ghost use Rattle.std.specs.Prelude.{◌≡◌, ◌≤◌, ◌<◌, ◌^◌, true, None, Some, Ok, length, IsTrue, IfOk, IfErr};
 ghost use Rattle.core_rows.specs.Fields.{records};
-ghost use Rattle.core_book.specs.Kept.{IsCase};
+ghost use Rattle.core_book.specs.WellFormed.{IsCase};
 ghost use Rattle.core_case.specs.Codes.{code_of};
 ghost use Rattle.core_case.specs.Kinds.{is_kind, kind_of};
 ghost use Rattle.core_case.specs.Faults.{fault_of, first_fault, heading_of, kind_step, missing_end, shape_fault};

@@ -5,7 +5,7 @@ ghost use Rattle.jiff.specs.Words.{epoch_day};
 ghost use Rattle.core_rows.specs.Fields.{IsName};
 ghost use Rattle.core_sums.specs.Places.{below};
 ghost use Rattle.core_book.specs.Inside.{book_view, tier_view};
-ghost use Rattle.core_book.specs.Kept.{IsInstrument};
+ghost use Rattle.core_book.specs.WellFormed.{IsInstrument};
 ghost use Rattle.core_rows.specs.Names.{field, place_of};
 ghost use Rattle.core_case.specs.Faults.{heading_of, house_name, of_kind};
 ghost use Rattle.core_case.specs.Stated.{case_of, cash_among, declared_names, depth_among, first_tier, holidays_among, instrument_of_record, limits_of, line_among, line_records, market_names, member_among, names_in, numbers_from, pool_of_record, prices_of, tier_of_record};

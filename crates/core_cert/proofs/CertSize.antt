@@ -9,18 +9,18 @@ use Rattle.core_rows.specs.Fields.{IsName, number_text, row_text}
 use Rattle.core_rows.specs.Names.{Record}
 use Rattle.core_rows.specs.Written.{rows_text}
 use Rattle.core_book.specs.View.{CaseView, instrument, instrument_of, is_tiered, line, no_instrument, no_line, no_pool, pool, tiers}
-use Rattle.core_book.specs.Kept.{IsCase}
+use Rattle.core_book.specs.WellFormed.{IsCase}
 use Rattle.core_book.proofs.Depth.{few-depth}
 use Rattle.core_model.specs.Closing.{Plan}
 use Rattle.core_model.specs.Layout.{closing_place, limit_weight, plan_of, pool_place, pool_weight}
 use Rattle.core_model.specs.declared.cert.Weights.{Weights}
 use Rattle.core_model.specs.declared.cert.Cert.{Cert}
 use Rattle.core_model.specs.declared.cert.Cert.TheVariants.{Closes, Cannot}
-use Rattle.core_model.specs.Fits.{Fits, IsKept, WeightsFit}
+use Rattle.core_model.specs.Fits.{Fits, IsWithin128, WeightsFit}
 use Rattle.core_cert.specs.Written.{amount_on, amount_record, amount_records, cert_text, constraint_records, day_record, each_tier, first_record, floored, full_of, full_record, full_records, inner_records, instrument_limits, limit_on, limit_record, limit_records, line_amounts, line_fields, most_bytes, pool_days, pool_on, pool_records, scenario_days, scenario_on, scenario_records, side_word, tier_fields, version_word, word_record}
 use Rattle.core_model.proofs.FewLines.{lines-few}
 use Rattle.core_cert.proofs.Printed.{rows_text-append, rows_text-cons, rows_text-none}
-use Rattle.core_sums.proofs.Kept.{at-kept}
+use Rattle.core_sums.proofs.Within128.{at-kept}
 use Rattle.core_cert.proofs.Size.{below-short, days-short, number_text-short, numbered-short, row_text-five, row_text-four, row_text-six, row_text-two, side_word-short}
 
 -- a day takes at most two digits
@@ -43,12 +43,12 @@ limit_row-short true name day tier number a d e f = omega (arith, row_text-five 
 limit_row-short false name day tier number a d e f = omega (arith, row_text-four (codes "limit") name day number, a, d, f)
 
 -- each kind of record
-word_record-short : (word : List ℕ) (z : ℤ) → length word ≤ 8 → IsKept z → length (row_text (word_record word z)) ≤ 50
+word_record-short : (word : List ℕ) (z : ℤ) → length word ≤ 8 → IsWithin128 z → length (row_text (word_record word z)) ≤ 50
 word_record-short word z short kept =
     let number = number_text-short z kept in
     omega (arith, row_text-two word (number_text z), short, number)
 
-day_record-short : (word name : List ℕ) (day : ℕ) (z : ℤ) → length word ≤ 8 → IsName name → day < 100 → IsKept z
+day_record-short : (word name : List ℕ) (day : ℕ) (z : ℤ) → length word ≤ 8 → IsName name → day < 100 → IsWithin128 z
     → length (rows_text (day_record word name day z)) ≤ 66
 day_record-short word name day z short good low kept =
     let number = number_text-short z kept in
@@ -56,21 +56,21 @@ day_record-short word name day z short good low kept =
     let named = good.short in
     numbered-short (word ∷ name ∷ decimal day ∷ []) z 66 (omega (arith, row_text-four word name (decimal day) (number_text z), short, named, digits, number))
 
-amount_record-short : (c : CaseView) (l day tier : ℕ) (z : ℤ) → IsName (instrument c (instrument_of c l)).name → day < 100 → tier < 10 → IsKept z
+amount_record-short : (c : CaseView) (l day tier : ℕ) (z : ℤ) → IsName (instrument c (instrument_of c l)).name → day < 100 → tier < 10 → IsWithin128 z
     → length (rows_text (amount_record c l day tier z)) ≤ 77
 amount_record-short c l day tier z good low small kept =
     numbered-short ((codes "amount" ∷ line_fields c l) ++ (decimal day ∷ tier_fields c tier)) z 77
     (amount_row-short (is_tiered c) (instrument c (instrument_of c l)).name (side_word (line c l).side) (decimal day) (decimal tier) (number_text z)
     good.short (side_word-short (line c l).side) (decimal-short day low) (tier-short tier small) (number_text-short z kept))
 
-limit_record-short : (c : CaseView) (i day tier : ℕ) (z : ℤ) → IsName (instrument c i).name → day < 100 → tier < 10 → IsKept z
+limit_record-short : (c : CaseView) (i day tier : ℕ) (z : ℤ) → IsName (instrument c i).name → day < 100 → tier < 10 → IsWithin128 z
     → length (rows_text (limit_record c i day tier z)) ≤ 65
 limit_record-short c i day tier z good low small kept =
     numbered-short (codes "limit" ∷ (instrument c i).name ∷ decimal day ∷ tier_fields c tier) z 65
     (limit_row-short (is_tiered c) (instrument c i).name (decimal day) (decimal tier) (number_text z)
     good.short (decimal-short day low) (tier-short tier small) (number_text-short z kept))
 
-full_record-short : (c : CaseView) (l : ℕ) (z : ℤ) → IsName (instrument c (instrument_of c l)).name → IsKept z
+full_record-short : (c : CaseView) (l : ℕ) (z : ℤ) → IsName (instrument c (instrument_of c l)).name → IsWithin128 z
     → length (rows_text (full_record c l z)) ≤ 75
 full_record-short c l z good kept =
     let number = number_text-short z kept in
@@ -97,7 +97,7 @@ closings-most h t b n all days tiers =
     omega (arith, all, whole)
 
 -- all records of each kind
-amounts-short : (c : CaseView) (a : Plan) → IsCase c → ((l u j : ℕ) → IsKept (a.amount l u j)) → length (rows_text (amount_records c a)) ≤ 394240
+amounts-short : (c : CaseView) (a : Plan) → IsCase c → ((l u j : ℕ) → IsWithin128 (a.amount l u j)) → length (rows_text (amount_records c a)) ≤ 394240
 amounts-short c a kept fits =
     let few = lines-few c kept in
     let all = below-short (length c.lines) 6160 (line_amounts c a) of_line in
@@ -175,7 +175,7 @@ size-none : length (rows_text []) ≡ 0
 size-none = rw rows_text-none refl
 
 -- a number that is floored stays within the width
-floored-kept : (z : ℤ) → IsKept z → IsKept (floored z)
+floored-kept : (z : ℤ) → IsWithin128 z → IsWithin128 (floored z)
 floored-kept z kept = elim (cases_Bool (int_lt (pos 0) z)) [
   | inl above ↦ rw above kept
   | inr low ↦ rw low (omega arith)

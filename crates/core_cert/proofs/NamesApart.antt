@@ -11,7 +11,7 @@ use Rattle.core_sums.specs.Places.{below}
 use Rattle.core_sums.proofs.Lists.{length-below, get_or-below}
 use Rattle.core_rows.proofs.NamesApart.{inserted}
 use Rattle.core_book.specs.View.{CaseView, instrument, line, instrument_of, no_line, no_instrument}
-use Rattle.core_book.specs.Kept.{IsCase}
+use Rattle.core_book.specs.WellFormed.{IsCase}
 use Rattle.core_book.specs.declared.parts.Side.{Side}
 use Rattle.core_book.specs.declared.parts.Side.TheVariants.{Position, Collateral}
 use Rattle.core_model.specs.Closing.{line_count}

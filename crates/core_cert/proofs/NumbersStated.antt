@@ -11,7 +11,7 @@ use Rattle.core_sums.proofs.Lists.{length-below, get_or-below}
 use Rattle.core_rows.specs.Names.{Record, field}
 use Rattle.core_rows.specs.Fields.{at_most, positive}
 use Rattle.core_book.specs.View.{CaseView}
-use Rattle.core_model.specs.Fits.{AreKept, Fits, IsKept}
+use Rattle.core_model.specs.Fits.{AreKept, Fits, IsWithin128}
 use Rattle.core_model.specs.declared.cert.Calendar.{Calendar}
 use Rattle.core_model.specs.declared.cert.Weights as weights
 use Rattle.core_model.specs.declared.cert.Cert.TheVariants as certs
@@ -140,29 +140,29 @@ negative : (n : ℕ) → unsigned_abs (neg_ℤ (pos n)) ≡ n
 negative zero = refl
 negative (suc n) = refl
 
-positive-kept : (o : Option ℕ) (p : Option ℕ) → at_most most o ≡ p → IsKept (unwrap_or (option_map pos p) (pos 0))
+positive-kept : (o : Option ℕ) (p : Option ℕ) → at_most most o ≡ p → IsWithin128 (unwrap_or (option_map pos p) (pos 0))
 positive-kept o None e = lit≤ tt
 positive-kept o (Some n) e = under o n e
 
-negative-kept : (o : Option ℕ) (p : Option ℕ) → at_most most o ≡ p → IsKept (unwrap_or (option_map (λ n. neg_ℤ (pos n)) p) (pos 0))
+negative-kept : (o : Option ℕ) (p : Option ℕ) → at_most most o ≡ p → IsWithin128 (unwrap_or (option_map (λ n. neg_ℤ (pos n)) p) (pos 0))
 negative-kept o None e = lit≤ tt
 negative-kept o (Some n) e = subst (λ (x : ℕ). x ≤ most) (sym (negative n)) (under o n e)
 
-pub number-kept : (word : List ℕ) → IsKept (number_in word)
+pub number-kept : (word : List ℕ) → IsWithin128 (number_in word)
 number-kept [] = lit≤ tt
 number-kept (b ∷ bs) = split (b == 45) ((b == 48) && (length bs == 0))
   where
     split : (minus nought : Bool)
-        → IsKept (unwrap_or (if minus then option_map (λ n. neg_ℤ (pos n)) (at_most most (positive bs)) else if nought then Some (pos 0) else option_map pos (at_most most (positive (b ∷ bs)))) (pos 0))
+        → IsWithin128 (unwrap_or (if minus then option_map (λ n. neg_ℤ (pos n)) (at_most most (positive bs)) else if nought then Some (pos 0) else option_map pos (at_most most (positive (b ∷ bs)))) (pos 0))
     split true nought = negative-kept (positive bs) (at_most most (positive bs)) refl
     split false true = lit≤ tt
     split false false = positive-kept (positive (b ∷ bs)) (at_most most (positive (b ∷ bs))) refl
 
 -- so is the number of a place
-kept-last : (r : Record) → IsKept (last_number r)
+kept-last : (r : Record) → IsWithin128 (last_number r)
 kept-last r = number-kept (field r (length r - 1))
 
-kept-at : (c : CaseView) (rs : List Record) (kind : RecordKind) (i : ℕ) → IsKept (number_at c rs kind i)
+kept-at : (c : CaseView) (rs : List Record) (kind : RecordKind) (i : ℕ) → IsWithin128 (number_at c rs kind i)
 kept-at c rs kind i = kept-last (unwrap_or (find (λ r. is_kind kind r && (place_in c kind r == i)) rs) [])
 
 -- so are the numbers of a kind
@@ -171,7 +171,7 @@ numbers-kept c rs kind = (
   numbers-length c rs kind,
   λ i d h.
       let within : i < places_of c kind = omega (arith, h, numbers-length c rs kind) in
-      subst IsKept (sym (get_or-below (places_of c kind) i (number_at c rs kind) d within)) (kept-at c rs kind i),
+      subst IsWithin128 (sym (get_or-below (places_of c kind) i (number_at c rs kind) d within)) (kept-at c rs kind i),
 )
 
 -- what records state fits the case

@@ -5,10 +5,10 @@ use Rattle.core_sums.specs.Places.{at}
 use Rattle.core_rows.specs.Names.{Record}
 use Rattle.core_rows.specs.Written.{rows_text}
 use Rattle.core_book.specs.View.{CaseView}
-use Rattle.core_book.specs.Kept.{IsCase}
+use Rattle.core_book.specs.WellFormed.{IsCase}
 use Rattle.core_model.specs.declared.cert.Calendar.{Calendar}
 use Rattle.core_model.specs.Layout.{amount_count, plan_of, scenario_count}
-use Rattle.core_model.specs.Fits.{CalendarFits, IsKept, WeightsFit}
+use Rattle.core_model.specs.Fits.{CalendarFits, IsWithin128, WeightsFit}
 use Rattle.core_cert.specs.declared.kinds.RecordKind.{RecordKind}
 use Rattle.core_cert.specs.declared.kinds.RecordKind.TheVariants.{Closes, Amount, Loss, Weights, Scenario, Limit, Pool, Full}
 use Rattle.core_cert.specs.Stated.{cert_of_bytes, calendar_stated, number_at, numbers_of, weights_stated}
@@ -43,7 +43,7 @@ closing-flat : (first closes loss margin den : Record) (amounts scenarios limits
 closing-flat first closes loss margin den amounts scenarios limits pools fulls last = simp append_assoc
 
 -- what may follow the first two records
-closing-rest : (c : CaseView) (x : Calendar) (loss : ℤ) (w : weights.Weights) → IsCase c → CalendarFits c x → IsKept loss → WeightsFit c w → IsRest c false Amount (closing_list c x loss w)
+closing-rest : (c : CaseView) (x : Calendar) (loss : ℤ) (w : weights.Weights) → IsCase c → CalendarFits c x → IsWithin128 loss → WeightsFit c w → IsRest c false Amount (closing_list c x loss w)
 closing-rest c x loss w kept calendar sized fits =
     rest-append c false Amount Loss (at x.amounts) (amount_count c) (amount_records c (plan_of c x)) (losses_on c loss w) amount_loss (amounts-block c x kept calendar)
     (loss-rest c loss (word_record (codes "weights") w.den ∷ scenarios_on c w) sized
@@ -75,7 +75,7 @@ closing-amounts c x loss w kept calendar fits = numbers-stated c (closing_rows c
     (none-after c w Amount p kept fits refl (no-limits c false w Amount p kept fits refl refl refl refl)))
 
 -- the loss
-closing-loss : (c : CaseView) (x : Calendar) (loss : ℤ) (w : weights.Weights) → IsCase c → CalendarFits c x → IsKept loss → number_at c (closing_rows c x loss w) Loss 0 ≡ loss
+closing-loss : (c : CaseView) (x : Calendar) (loss : ℤ) (w : weights.Weights) → IsCase c → CalendarFits c x → IsWithin128 loss → number_at c (closing_rows c x loss w) Loss 0 ≡ loss
 closing-loss c x loss w kept calendar sized = states-number c Loss 0 (closing_rows c x loss w) loss
     (past-amounts c x loss w Loss 0 loss kept calendar refl (inr (word_record (codes "loss") loss, refl, number_in-kept loss sized)))
 
@@ -98,7 +98,7 @@ closing-weights c x loss w kept calendar fits = same-weights w _ _ _ _ _
 same-closing : (x y : Calendar) (loss other : ℤ) (w v : weights.Weights) → x ≡ y → loss ≡ other → w ≡ v → certs_of.Closes x loss w ≡ certs_of.Closes y other v
 same-closing x y loss other w v a b d = rw (a, b, d) refl
 
-pub closing-read : (c : CaseView) (x : Calendar) (loss : ℤ) (w : weights.Weights) → IsCase c → CalendarFits c x → IsKept loss → WeightsFit c w
+pub closing-read : (c : CaseView) (x : Calendar) (loss : ℤ) (w : weights.Weights) → IsCase c → CalendarFits c x → IsWithin128 loss → WeightsFit c w
     → cert_of_bytes c (cert_text c (certs_of.Closes x loss w)) ≡ Ok (certs_of.Closes x loss w)
 closing-read c x loss w kept calendar sized fits =
     ap (λ rs. cert_of_bytes c (rows_text rs)) (closing-flat (first_record c) (word_record (codes "closes") x.den) (word_record (codes "loss") loss) (word_record (codes "margin") (floored loss))

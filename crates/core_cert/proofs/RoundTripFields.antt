@@ -11,7 +11,7 @@ use Rattle.core_rows.specs.Fields.{IsName, is_name_byte, number_text, wide}
 use Rattle.core_rows.proofs.Numbers.{number-read}
 use Rattle.core_book.specs.declared.parts.Side.{Side}
 use Rattle.core_book.specs.declared.parts.Side.TheVariants.{Position, Collateral}
-use Rattle.core_model.specs.Fits.{IsKept}
+use Rattle.core_model.specs.Fits.{IsWithin128}
 use Rattle.core_cert.specs.declared.forms.Form.{Form}
 use Rattle.core_cert.specs.declared.forms.Form.TheVariants.{Name, SideWord, Number, Numerator, NotZero}
 use Rattle.core_cert.specs.declared.faults.RecordFault.TheVariants.{FieldCount, NotAName, NotANumber, OutOfRange}
@@ -58,11 +58,11 @@ fit-fields fs word words fit =
     (fit-forms fs words fit) (fit-ranges fs words fit)
 
 -- the text of a kept number, and of a day
-pub kept-read : (z : ℤ) → IsKept z → wide (number_text z) ≡ Some z
+pub kept-read : (z : ℤ) → IsWithin128 z → wide (number_text z) ≡ Some z
 kept-read (pos n) kept = number-read (pos n) (omega (arith, ints)) (omega (arith, ints, kept))
 kept-read (negsuc n) kept = number-read (negsuc n) (omega (arith, ints, kept)) (omega (arith, ints))
 
-pub number_in-kept : (z : ℤ) → IsKept z → number_in (number_text z) ≡ z
+pub number_in-kept : (z : ℤ) → IsWithin128 z → number_in (number_text z) ≡ z
 number_in-kept z kept = ap (λ o. unwrap_or o (pos 0)) (kept-read z kept)
 
 pub day-read : (u : ℕ) → u ≤ 40 → wide (decimal u) ≡ Some (pos u)
@@ -82,10 +82,10 @@ pub fit-side : (side : Side) → IsFit SideWord (side_word side)
 fit-side Position = (refl, refl)
 fit-side Collateral = (refl, refl)
 
-pub fit-number : (z : ℤ) → IsKept z → IsFit Numerator (number_text z)
+pub fit-number : (z : ℤ) → IsWithin128 z → IsFit Numerator (number_text z)
 fit-number z kept = (ap (λ o. fault_unless (is_some o) NotANumber) (kept-read z kept), refl)
 
-pub fit-not_zero : (z : ℤ) → IsKept z → int_eq z (pos 0) ≡ false → IsFit NotZero (number_text z)
+pub fit-not_zero : (z : ℤ) → IsWithin128 z → int_eq z (pos 0) ≡ false → IsFit NotZero (number_text z)
 fit-not_zero z kept other = (
   ap (λ o. fault_unless (is_some o) NotANumber) (kept-read z kept),
   ap (λ n. fault_unless (not (int_eq n (pos 0))) OutOfRange) (number_in-kept z kept) ∙ ap (λ b. fault_unless (not b) OutOfRange) other,

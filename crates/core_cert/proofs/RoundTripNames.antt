@@ -11,7 +11,7 @@ use Rattle.core_sums.specs.Places.{below, row_at}
 use Rattle.core_sums.proofs.Lists.{get_or-below, length-below}
 use Rattle.core_rows.specs.Names.{Record, place_of}
 use Rattle.core_book.specs.View.{CaseView, instrument, instrument_of, line, no_line}
-use Rattle.core_book.specs.Kept.{IsCase}
+use Rattle.core_book.specs.WellFormed.{IsCase}
 use Rattle.core_model.specs.Closing.{line_count}
 use Rattle.core_cert.specs.Written.{side_word}
 use Rattle.core_cert.specs.Faults.{is_line_of, line_named}

@@ -11,11 +11,11 @@ use Rattle.core_rows.specs.Fields.{IsName, number_text}
 use Rattle.core_rows.specs.Written.{IsPlainRow}
 use Rattle.core_rows.proofs.Plain.{decimal-plain, is_name-plain, number_text-plain, row-plain-more, row-plain-one, word-plain}
 use Rattle.core_book.specs.View.{CaseView, instrument, instrument_of, is_tiered, line, no_instrument, no_line, no_pool, pool, tiers}
-use Rattle.core_book.specs.Kept.{IsCase}
+use Rattle.core_book.specs.WellFormed.{IsCase}
 use Rattle.core_book.proofs.Depth.{few-depth}
 use Rattle.core_book.specs.declared.parts.Side.{Side}
 use Rattle.core_model.specs.Closing.{line_count}
-use Rattle.core_model.specs.Fits.{IsKept}
+use Rattle.core_model.specs.Fits.{IsWithin128}
 use Rattle.core_cert.specs.declared.kinds.RecordKind.TheVariants.{Amount, Scenario, Limit, Pool, Full}
 use Rattle.core_cert.specs.declared.forms.Form.TheVariants.{Name, SideWord, Number, NotZero}
 use Rattle.core_cert.specs.declared.faults.RecordFault.TheVariants.{NotInCase, NoSuchLine}
@@ -71,7 +71,7 @@ row-plain word name day number first is u day-is z number-is =
     (row-plain-more day (number ∷ []) (rw day-is (decimal-plain u)) (row-plain-one number (rw number-is (number_text-plain z)))))
 
 -- the fields of a name, a day and a number
-day-fields : (first last : ℕ) (name : List ℕ) (u : ℕ) (z : ℤ) → IsName name → first ≤ u → u ≤ last → u ≤ 40 → IsKept z → int_eq z (pos 0) ≡ false
+day-fields : (first last : ℕ) (name : List ℕ) (u : ℕ) (z : ℤ) → IsName name → first ≤ u → u ≤ last → u ≤ 40 → IsWithin128 z → int_eq z (pos 0) ≡ false
     → AreFit (Name ∷ Number first last ∷ NotZero ∷ []) (name ∷ decimal u ∷ number_text z ∷ [])
 day-fields first last name u z is low high small kept other = (fit-name name is, (fit-day first last u low high small, (fit-not_zero z kept other, tt)))
 
@@ -88,7 +88,7 @@ day-place : (u : ℕ) (a b h i : ℕ) → a ≡ b → u ≡ suc i → a * h + (u
 day-place u a b h i same day = rw (same, day) (let one : suc i - 1 ≡ i = omega arith in ap (λ t. b * h + t) one)
 
 -- the record of an amount
-pub amount-good : (c : CaseView) → IsCase c → (l i k : ℕ) (z : ℤ) → l < line_count c → i < c.horizon → k < tiers c → IsKept z → int_eq z (pos 0) ≡ false
+pub amount-good : (c : CaseView) → IsCase c → (l i k : ℕ) (z : ℤ) → l < line_count c → i < c.horizon → k < tiers c → IsWithin128 z → int_eq z (pos 0) ≡ false
     → IsGood c Amount (codes "amount" ∷ (instrument c (instrument_of c l)).name ∷ side_word (line c l).side ∷ decimal (suc i) ∷ ending (is_tiered c) (suc k) z)
     ((l * c.horizon + i) * tiers c + k) z
 amount-good c kept l i k z under small within fits other = record {
@@ -149,7 +149,7 @@ amount-good c kept l i k z under small within fits other = record {
     named = line-is c kept l (codes "amount") (decimal (suc i) ∷ ending (is_tiered c) (suc k) z) under
 
 -- the record of a line's weight
-pub full-good : (c : CaseView) → IsCase c → (l : ℕ) (z : ℤ) → l < line_count c → IsKept z → int_eq z (pos 0) ≡ false
+pub full-good : (c : CaseView) → IsCase c → (l : ℕ) (z : ℤ) → l < line_count c → IsWithin128 z → int_eq z (pos 0) ≡ false
     → IsGood c Full (codes "full" ∷ (instrument c (instrument_of c l)).name ∷ side_word (line c l).side ∷ number_text z ∷ []) l z
 full-good c kept l z under fits other = record {
   is = refl;
@@ -187,7 +187,7 @@ full-good c kept l z under fits other = record {
     named = line-is c kept l (codes "full") (number_text z ∷ []) under
 
 -- the record of a limit's weight
-pub limit-good : (c : CaseView) → IsCase c → (j i k : ℕ) (z : ℤ) → j < length c.instruments → i < c.horizon → k < tiers c → IsKept z → int_eq z (pos 0) ≡ false
+pub limit-good : (c : CaseView) → IsCase c → (j i k : ℕ) (z : ℤ) → j < length c.instruments → i < c.horizon → k < tiers c → IsWithin128 z → int_eq z (pos 0) ≡ false
     → IsGood c Limit (codes "limit" ∷ (instrument c j).name ∷ decimal (suc i) ∷ ending (is_tiered c) (suc k) z) ((j * c.horizon + i) * tiers c + k) z
 limit-good c kept j i k z under small within fits other = record {
   is = refl;
@@ -238,7 +238,7 @@ limit-good c kept j i k z under small within fits other = record {
     tier-few = tier-small c kept k within
 
 -- the record of a pool's weight
-pub pool-good : (c : CaseView) → IsCase c → (p i : ℕ) (z : ℤ) → p < length c.pools → i < c.horizon → IsKept z → int_eq z (pos 0) ≡ false
+pub pool-good : (c : CaseView) → IsCase c → (p i : ℕ) (z : ℤ) → p < length c.pools → i < c.horizon → IsWithin128 z → int_eq z (pos 0) ≡ false
     → IsGood c Pool (codes "pool" ∷ (pool c p).name ∷ decimal (suc i) ∷ number_text z ∷ []) (p * c.horizon + i) z
 pool-good c kept p i z under small fits other = record {
   is = refl;
@@ -266,7 +266,7 @@ pool-good c kept p i z under small fits other = record {
     few = day-small c kept i small
 
 -- the record of a scenario's weight
-pub scenario-good : (c : CaseView) → IsCase c → (k t : ℕ) (z : ℤ) → k < length c.scenarios → t ≤ c.last → IsKept z → int_eq z (pos 0) ≡ false
+pub scenario-good : (c : CaseView) → IsCase c → (k t : ℕ) (z : ℤ) → k < length c.scenarios → t ≤ c.last → IsWithin128 z → int_eq z (pos 0) ≡ false
     → IsGood c Scenario (codes "scenario" ∷ row_at c.scenarios k ∷ decimal t ∷ number_text z ∷ []) (k * suc c.last + t) z
 scenario-good c kept k t z under small fits other = record {
   is = refl;

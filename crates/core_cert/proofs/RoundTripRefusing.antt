@@ -4,7 +4,7 @@ use Rattle.std.specs.List.{All}
 use Rattle.core_rows.specs.Names.{Record}
 use Rattle.core_rows.specs.Written.{rows_text}
 use Rattle.core_book.specs.View.{CaseView}
-use Rattle.core_book.specs.Kept.{IsCase}
+use Rattle.core_book.specs.WellFormed.{IsCase}
 use Rattle.core_model.specs.Fits.{WeightsFit}
 use Rattle.core_cert.specs.declared.kinds.RecordKind.TheVariants.{Cannot, Weights, Scenario, Limit, Pool, Full}
 use Rattle.core_cert.specs.Stated.{cert_of_bytes, numbers_of, weights_stated}

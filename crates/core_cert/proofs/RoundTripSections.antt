@@ -3,7 +3,7 @@ use Rattle.std.proofs.Common.{◌≡◌, ◌∷◌, ◌++◌, [], ℕ, suc, ◌+
 use Rattle.core_sums.specs.Places.{at, below, days_to, each, row_at}
 use Rattle.core_rows.specs.Names.{Record}
 use Rattle.core_book.specs.View.{CaseView, instrument, pool, tiers}
-use Rattle.core_book.specs.Kept.{IsCase}
+use Rattle.core_book.specs.WellFormed.{IsCase}
 use Rattle.core_model.specs.declared.cert.Calendar.{Calendar}
 use Rattle.core_model.specs.declared.cert.Weights.{Weights}
 use Rattle.core_model.specs.Layout.{amount_count, closing_place, full_weight, limit_count, limit_weight, plan_of, pool_count, pool_weight, scenario_count, scenario_weight}
@@ -12,7 +12,7 @@ use Rattle.core_model.specs.Fits.{CalendarFits, WeightsFit}
 use Rattle.core_cert.specs.declared.kinds.RecordKind.{RecordKind}
 use Rattle.core_cert.specs.declared.kinds.RecordKind.TheVariants.{Amount, Scenario, Limit, Pool, Full}
 use Rattle.core_cert.specs.Written.{amount_on, amount_records, full_of, full_records, limit_on, limit_records, line_fields, pool_days, pool_on, pool_records, scenario_days, scenario_on, scenario_records, tier_fields}
-use Rattle.core_sums.proofs.Kept.{at-kept}
+use Rattle.core_sums.proofs.Within128.{at-kept}
 use Rattle.core_cert.proofs.RoundTripBlocks.{IsBlock, block-at, block-below, block-days, block-numbered}
 use Rattle.core_cert.proofs.RoundTripTiers.{closing-at}
 use Rattle.core_cert.proofs.RoundTripRecords.{amount-good, full-good, limit-good, pool-good, scenario-good}

@@ -8,7 +8,7 @@ use Rattle.core_rows.specs.Fields.{number_text}
 use Rattle.core_rows.specs.Written.{IsPlainRow}
 use Rattle.core_rows.proofs.Plain.{decimal-plain, number_text-plain, row-plain-more, row-plain-one}
 use Rattle.core_book.specs.View.{CaseView, tiers}
-use Rattle.core_model.specs.Fits.{IsKept}
+use Rattle.core_model.specs.Fits.{IsWithin128}
 use Rattle.core_model.specs.Layout.{closing_place}
 use Rattle.core_cert.specs.declared.forms.Form.{Form}
 use Rattle.core_cert.specs.declared.forms.Form.TheVariants.{Number, NotZero}
@@ -24,7 +24,7 @@ abbrev pub ending_forms : Bool → ℕ → List Form
 ending_forms tiered most = (if tiered then Number 1 most ∷ [] else []) ++ (NotZero ∷ [])
 
 -- they have their forms
-pub ending-fit : (tiered : Bool) (most j : ℕ) (z : ℤ) → 1 ≤ j → j ≤ most → j ≤ 40 → IsKept z → int_eq z (pos 0) ≡ false
+pub ending-fit : (tiered : Bool) (most j : ℕ) (z : ℤ) → 1 ≤ j → j ≤ most → j ≤ 40 → IsWithin128 z → int_eq z (pos 0) ≡ false
     → AreFit (ending_forms tiered most) (ending tiered j z)
 ending-fit true most j z low high small kept other = (fit-day 1 most j low high small, (fit-not_zero z kept other, tt))
 ending-fit false most j z low high small kept other = (fit-not_zero z kept other, tt)
@@ -48,11 +48,11 @@ only-tier most k under none = elim (cases_lt 1 most) [
 ]
 
 -- their number ends a record
-pub third-number : (tiered : Bool) (a b d : List ℕ) (j : ℕ) (z : ℤ) → IsKept z → last_number (a ∷ b ∷ d ∷ ending tiered j z) ≡ z
+pub third-number : (tiered : Bool) (a b d : List ℕ) (j : ℕ) (z : ℤ) → IsWithin128 z → last_number (a ∷ b ∷ d ∷ ending tiered j z) ≡ z
 third-number true a b d j z kept = number_in-kept z kept
 third-number false a b d j z kept = number_in-kept z kept
 
-pub fourth-number : (tiered : Bool) (a b d e : List ℕ) (j : ℕ) (z : ℤ) → IsKept z → last_number (a ∷ b ∷ d ∷ e ∷ ending tiered j z) ≡ z
+pub fourth-number : (tiered : Bool) (a b d e : List ℕ) (j : ℕ) (z : ℤ) → IsWithin128 z → last_number (a ∷ b ∷ d ∷ e ∷ ending tiered j z) ≡ z
 fourth-number true a b d e j z kept = number_in-kept z kept
 fourth-number false a b d e j z kept = number_in-kept z kept
 

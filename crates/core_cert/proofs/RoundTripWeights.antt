@@ -5,7 +5,7 @@ use Rattle.std.proofs.lemmas.List.Elements.{All-cons, All-nil}
 use Rattle.core_sums.specs.Places.{at}
 use Rattle.core_rows.specs.Names.{Record}
 use Rattle.core_book.specs.View.{CaseView}
-use Rattle.core_book.specs.Kept.{IsCase}
+use Rattle.core_book.specs.WellFormed.{IsCase}
 use Rattle.core_model.specs.Closing.{line_count}
 use Rattle.core_model.specs.Layout.{limit_count, pool_count}
 use Rattle.core_model.specs.Fits.{WeightsFit}

@@ -10,7 +10,7 @@ use Rattle.core_rows.specs.Fields.{number_text}
 use Rattle.core_rows.specs.Written.{IsPlainRow}
 use Rattle.core_rows.proofs.Plain.{row-plain-one, word-plain}
 use Rattle.core_book.specs.View.{CaseView}
-use Rattle.core_model.specs.Fits.{IsKept}
+use Rattle.core_model.specs.Fits.{IsWithin128}
 use Rattle.core_cert.specs.declared.kinds.RecordKind.{RecordKind}
 use Rattle.core_cert.specs.declared.kinds.RecordKind.TheVariants.{Closes, Cannot, Loss, Margin, Weights}
 use Rattle.core_cert.specs.declared.forms.Form.TheVariants.{Numerator}
@@ -24,7 +24,7 @@ use Rattle.core_cert.proofs.RoundTripFields.{fit-fields, fit-number, number_in-k
 use Rattle.core_cert.proofs.RoundTripRest.{IsRest, word_record-plain}
 
 -- the records of the denominators and the loss are good
-pub closes-good : (c : CaseView) (z : ℤ) → IsKept z → IsGood c Closes (word_record (codes "closes") z) 0 z
+pub closes-good : (c : CaseView) (z : ℤ) → IsWithin128 z → IsGood c Closes (word_record (codes "closes") z) 0 z
 closes-good c z kept = record {
   is = refl;
   fields = fit-fields (Numerator ∷ []) (codes "closes") (number_text z ∷ []) (fit-number z kept, tt);
@@ -36,7 +36,7 @@ closes-good c z kept = record {
   number = number_in-kept z kept;
 }
 
-pub loss-good : (c : CaseView) (z : ℤ) → IsKept z → IsGood c Loss (word_record (codes "loss") z) 0 z
+pub loss-good : (c : CaseView) (z : ℤ) → IsWithin128 z → IsGood c Loss (word_record (codes "loss") z) 0 z
 loss-good c z kept = record {
   is = refl;
   fields = fit-fields (Numerator ∷ []) (codes "loss") (number_text z ∷ []) (fit-number z kept, tt);
@@ -48,7 +48,7 @@ loss-good c z kept = record {
   number = number_in-kept z kept;
 }
 
-pub weights-good : (c : CaseView) (z : ℤ) → IsKept z → IsGood c Weights (word_record (codes "weights") z) 0 z
+pub weights-good : (c : CaseView) (z : ℤ) → IsWithin128 z → IsGood c Weights (word_record (codes "weights") z) 0 z
 weights-good c z kept = record {
   is = refl;
   fields = fit-fields (Numerator ∷ []) (codes "weights") (number_text z ∷ []) (fit-number z kept, tt);
@@ -73,11 +73,11 @@ cannot-good c = record {
 }
 
 -- a loss is floored within the numbers that are kept
-floored-kept : (loss : ℤ) → IsKept loss → IsKept (floored loss)
-floored-kept loss kept = cond_both (int_lt (pos 0) loss) loss (pos 0) IsKept (λ above. kept) (λ under. omega arith)
+floored-kept : (loss : ℤ) → IsWithin128 loss → IsWithin128 (floored loss)
+floored-kept loss kept = cond_both (int_lt (pos 0) loss) loss (pos 0) IsWithin128 (λ above. kept) (λ under. omega arith)
 
 -- the margin stands soundly after the loss
-margin-sound : (c : CaseView) (loss : ℤ) → IsKept loss → IsSound c false (word_record (codes "loss") loss) (word_record (codes "margin") (floored loss))
+margin-sound : (c : CaseView) (loss : ℤ) → IsWithin128 loss → IsSound c false (word_record (codes "loss") loss) (word_record (codes "margin") (floored loss))
 margin-sound c loss kept = record {
   kind = Margin;
   last = Loss;
@@ -97,7 +97,7 @@ margin-sound c loss kept = record {
 
 -- the weights' denominator, before what may follow it
 pub den-rest : (c : CaseView) (refusing : Bool) (next : RecordKind) (den : ℤ) (rs : List Record) → can_follow refusing Weights next ≡ true → same_kind next Weights ≡ false
-    → IsKept den → IsRest c refusing next rs → IsRest c refusing Weights (word_record (codes "weights") den ∷ rs)
+    → IsWithin128 den → IsRest c refusing next rs → IsRest c refusing Weights (word_record (codes "weights") den ∷ rs)
 den-rest c refusing next den rs follows differs kept rest = record {
   sound = λ before after.
       let later = rest.sound (word_record (codes "weights") den) (record { last = Weights; is = refl; follows = follows; low = λ same. absurd (both_ways (same_kind next Weights) differs same) }) in
@@ -106,7 +106,7 @@ den-rest c refusing next den rs follows differs kept rest = record {
 }
 
 -- the loss, the margin and what may follow them
-pub loss-rest : (c : CaseView) (loss : ℤ) (rs : List Record) → IsKept loss → IsRest c false Weights rs
+pub loss-rest : (c : CaseView) (loss : ℤ) (rs : List Record) → IsWithin128 loss → IsRest c false Weights rs
     → IsRest c false Loss (word_record (codes "loss") loss ∷ word_record (codes "margin") (floored loss) ∷ rs)
 loss-rest c loss rs kept rest = record {
   sound = λ before after.

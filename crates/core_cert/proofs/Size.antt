@@ -9,13 +9,13 @@ use Rattle.core_rows.specs.Names.{Record}
 use Rattle.core_rows.specs.Written.{rows_text}
 use Rattle.core_book.specs.declared.parts.Side.{Side}
 use Rattle.core_book.specs.declared.parts.Side.TheVariants.{Position, Collateral}
-use Rattle.core_model.specs.Fits.{IsKept}
+use Rattle.core_model.specs.Fits.{IsWithin128}
 use Rattle.core_cert.specs.Written.{numbered, side_word}
 use Rattle.core_cert.proofs.Printed.{rows_text-none, rows_text-one}
 use Rattle.core_cert.proofs.Rising.{each-last}
 
 -- a number takes at most 40 bytes
-pub number_text-short : (z : ℤ) → IsKept z → length (number_text z) ≤ 40
+pub number_text-short : (z : ℤ) → IsWithin128 z → length (number_text z) ≤ 40
 number_text-short (pos n) kept =
     let digits : length (decimal n) ≤ 39 = length-decimal-le_wide 39 n (lit< tt) (omega (arith, kept)) (omega (arith, kept)) in
     omega (arith, digits)

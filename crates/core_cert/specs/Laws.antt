@@ -1,7 +1,7 @@
 -- A law that the crate's public functions state.
 use Rattle.std.specs.Prelude.{◌≡◌, Ok}
 use Rattle.core_book.specs.View.{CaseView}
-use Rattle.core_book.specs.Kept.{IsCase}
+use Rattle.core_book.specs.WellFormed.{IsCase}
 use Rattle.core_model.specs.declared.cert.Cert.{Cert}
 use Rattle.core_model.specs.Fits.{Fits, IsPlainlyRefusing}
 use Rattle.core_cert.specs.Written.{cert_text}

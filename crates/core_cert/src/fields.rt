@@ -1,6 +1,6 @@
 // Fields of a record: words, and the numbers that they write.
 ghost use Rattle.std.specs.Prelude.{◌≡◌};
-ghost use Rattle.core_model.specs.Fits.{IsKept};
+ghost use Rattle.core_model.specs.Fits.{IsWithin128};
 ghost use Rattle.core_cert.specs.Faults.{number_in, small_in};
 ghost use Rattle.core_cert.specs.Stated.{last_number};
 
@@ -9,7 +9,7 @@ use core_rows::{Fields, wide};
 /// The number that a word writes, 0 where it writes none.
 pub(crate) fn number_in(word: &[u8]) -> i128
     ensures value { result ≡ number_in word.now }
-    ensures kept { IsKept result }
+    ensures kept { IsWithin128 result }
 {
     wide(word).unwrap_or(0)
 }

@@ -2,7 +2,7 @@
 ghost use Rattle.std.specs.Prelude.{◌≡◌, ◌<◌, ◌++◌, ◌∷◌, [], IsTrue, OnOk, IfOk, codes, decimal, length};
 ghost use Rattle.core_rows.specs.Fields.{row_text};
 ghost use Rattle.core_rows.specs.Written.{IsPlainRow, rows_text};
-ghost use Rattle.core_model.specs.Fits.{IsKept};
+ghost use Rattle.core_model.specs.Fits.{IsWithin128};
 ghost use Rattle.core_cert.specs.Written.{amount_record, day_record, first_record, full_record, is_plain_word, limit_record, line_fields, side_word, tier_fields, version_word, word_record};
 
 use crate::forms::is_tiered;
@@ -55,7 +55,7 @@ pub(crate) fn put_number(
     number: i128,
 ) -> Result<(), AllocError>
     requires word { IsTrue (is_plain_word word.now) }
-    requires number { IsKept number }
+    requires number { IsWithin128 number }
     ensures { OnOk result (out.new.items
         ≡ out.old.items ++ row_text (word_record word.now number)) }
 {
@@ -75,7 +75,7 @@ pub(crate) fn put_day(
     number: i128,
 ) -> Result<(), AllocError>
     requires word { IsTrue (is_plain_word word.now) }
-    requires number { IsKept number }
+    requires number { IsWithin128 number }
     ensures { OnOk result (out.new.items
         ≡ out.old.items ++ rows_text (day_record word.now name day number)) }
 {
@@ -133,7 +133,7 @@ pub(crate) fn put_amount(
     amount: i128,
 ) -> Result<(), AllocError>
     requires line { l < length case.now.lines }
-    requires amount { IsKept amount }
+    requires amount { IsWithin128 amount }
     ensures { OnOk result (out.new.items
         ≡ out.old.items ++ rows_text (amount_record case.now l day tier amount)) }
 {
@@ -157,7 +157,7 @@ pub(crate) fn put_limit(
     weight: i128,
 ) -> Result<(), AllocError>
     requires instrument { i < length case.now.instruments }
-    requires weight { IsKept weight }
+    requires weight { IsWithin128 weight }
     ensures { OnOk result (out.new.items
         ≡ out.old.items ++ rows_text (limit_record case.now i day tier weight)) }
 {
@@ -181,7 +181,7 @@ pub(crate) fn put_full(
     weight: i128,
 ) -> Result<(), AllocError>
     requires line { l < length case.now.lines }
-    requires weight { IsKept weight }
+    requires weight { IsWithin128 weight }
     ensures { OnOk result (out.new.items
         ≡ out.old.items ++ rows_text (full_record case.now l weight)) }
 {

@@ -1,7 +1,7 @@
 // The text of a certificate, kind by kind.
 ghost use Rattle.std.specs.Prelude.{◌≡◌, ◌<◌, ◌≤◌, ◌++◌, OnOk, IfOk, length};
 ghost use Rattle.core_rows.specs.Written.{rows_text};
-ghost use Rattle.core_model.specs.Fits.{CalendarFits, Fits, IsKept, WeightsFit, IsPlainlyRefusing};
+ghost use Rattle.core_model.specs.Fits.{CalendarFits, Fits, IsWithin128, WeightsFit, IsPlainlyRefusing};
 ghost use Rattle.core_model.specs.Closing.{IsClosingDay};
 ghost use Rattle.core_model.specs.Layout.{plan_of};
 ghost use Rattle.core_cert.specs.Written.{amount_records, cert_text, closing_records, constraint_records, day_amounts, day_limits, full_records, instrument_limits, limit_records, line_amounts, most_bytes, pool_days, pool_records, refusing_records, scenario_days, scenario_records};
@@ -242,7 +242,7 @@ fn put_closing(
     weights: &Weights,
 ) -> Result<(), AllocError>
     requires calendar { CalendarFits case.now calendar.now }
-    requires loss { IsKept loss }
+    requires loss { IsWithin128 loss }
     requires weights { WeightsFit case.now weights.now }
     ensures { OnOk result (out.new.items
         ≡ out.old.items ++ rows_text (closing_records case.now

@@ -7,7 +7,7 @@ use Rattle.core_book.specs.View.{CaseView, instrument_of, member, counts, is_all
 use Rattle.core_model.specs.declared.cert.Weights.{Weights}
 use Rattle.core_model.specs.Bounds.{unit}
 use Rattle.core_model.specs.Check.{Test, members_of_instrument, of_terms, limit_terms, unit_terms, charge_terms, charge_test}
-use Rattle.core_model.specs.Fits.{IsKept, WeightsFit}
+use Rattle.core_model.specs.Fits.{IsWithin128, WeightsFit}
 use Rattle.core_wide.specs.Steps.{summed, with_product}
 use Rattle.core_check.specs.Steps.{judged, member_charge, unit_charge}
 use Rattle.core_sums.proofs.Joined.{each-single, map-filter, map-cong}
@@ -15,7 +15,7 @@ use Rattle.core_model.proofs.Places.{scenario-at}
 use Rattle.core_check.proofs.Tables.{scenarios-by_place}
 use Rattle.core_wide.proofs.Adding.{nothing-added, part-on, part-ends, same-sum, sum-total}
 use Rattle.core_check.proofs.Judging.{judged-where, judged-none, sum-stays, sum-leaves}
-use Rattle.core_sums.proofs.Kept.{at-kept}
+use Rattle.core_sums.proofs.Within128.{at-kept}
 use Rattle.core_model.specs.Layout.{scenario_weight, limit_weight, pool_weight, full_weight, scenario_at_place, house_day_at_place, scenario_count, closing_place}
 
 -- the members of an instrument
@@ -69,9 +69,9 @@ limit-parts c w i u j e =
 
 -- the limit's weight is kept
 pub limit-summed : (c : CaseView) (w : Weights) (i u j : ℕ) (x : ℤ) (r : Option ℤ) → WeightsFit c w → x ≡ limit_weight c w i u j
-    → (IsKept x → r ≡ with_product (pos 0) x) → r ≡ summed (pos 0) (limit_part c w i u j) (limit_part c w i u j)
+    → (IsWithin128 x → r ≡ with_product (pos 0) x) → r ≡ summed (pos 0) (limit_part c w i u j) (limit_part c w i u j)
 limit-summed c w i u j x r fits e sum =
-    sum (subst (λ (z : ℤ). IsKept z) (sym e) (at-kept w.limit (closing_place c i u j) fits.limit.1)) ∙ ap (with_product (pos 0)) e
+    sum (subst (λ (z : ℤ). IsWithin128 z) (sym e) (at-kept w.limit (closing_place c i u j) fits.limit.1)) ∙ ap (with_product (pos 0)) e
 
 -- A sum of them ends where the first leaves, and else it is what the pools' part answers.
 pub limit-ends : (c : CaseView) (w : Weights) (i u j : ℕ) → counts c i u ≡ true

@@ -12,7 +12,7 @@ use Rattle.core_sums.proofs.SumLaws.{sum_below-cong, sum_below-scale, sum_below-
 use Rattle.core_sums.proofs.Order.{times-le, times-nonneg, sum_below-grouped}
 use Rattle.core_sums.proofs.Grids.{sum_grid-cong, sum_grid-le, sum_grid-plus, sum_grid-scale}
 use Rattle.core_book.specs.View.{CaseView, line, instrument_of, tiers, tiers_of, limit, counts, no_line, no_tier}
-use Rattle.core_book.specs.Kept.{IsCase}
+use Rattle.core_book.specs.WellFormed.{IsCase}
 use Rattle.core_book.specs.declared.parts.Side.{Side}
 use Rattle.core_book.specs.declared.parts.Side.TheVariants.{Position, Collateral}
 use Rattle.core_book.proofs.Depth.{depth-kept}

@@ -8,7 +8,7 @@ use Rattle.std.specs.List.{list_all}
 use Rattle.core_sums.specs.Sums.{sum_below, sum_days, total, greatest_to}
 use Rattle.core_sums.proofs.SumLaws.{sum_below-nonneg, term-none, greatest_to-le}
 use Rattle.core_book.specs.View.{CaseView, instrument, line, instrument_of, pool, tiers, tiers_of, limit, counts, pays, is_traded, is_allowed}
-use Rattle.core_book.specs.Kept.{IsCase}
+use Rattle.core_book.specs.WellFormed.{IsCase}
 use Rattle.core_book.specs.declared.parts.Side.{Side}
 use Rattle.core_book.specs.declared.parts.Side.TheVariants.{Position, Collateral}
 use Rattle.core_model.specs.declared.cert.Weights.{Weights}

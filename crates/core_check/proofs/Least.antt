@@ -8,7 +8,7 @@ use Rattle.core_sums.proofs.SumLaws.{greatest_to-bounds}
 use Rattle.core_sums.proofs.Order.{times-le, times-cancel}
 use Rattle.core_sums.proofs.Grids.{sum_grid-cong, sum_grid-le, sum_grid-scale}
 use Rattle.core_book.specs.View.{CaseView}
-use Rattle.core_book.specs.Kept.{IsCase}
+use Rattle.core_book.specs.WellFormed.{IsCase}
 use Rattle.core_model.specs.declared.cert.Weights.{Weights}
 use Rattle.core_model.specs.Closing.{Plan, IsAdmissible, loss_of, worst_loss, IsLeast}
 use Rattle.core_model.specs.Bounds.{AreBounding, sum_losses, bound}

@@ -8,7 +8,7 @@ use Rattle.core_sums.proofs.SumLaws.{sum_below-cong, sum_below-zero, sum_below-s
 use Rattle.core_sums.proofs.Order.{times-le}
 use Rattle.core_sums.proofs.Grids.{sum_grid-cong, sum_grid-le, sum_grid-scale}
 use Rattle.core_book.specs.View.{CaseView, instrument_of, member, pool, tiers, counts, no_member}
-use Rattle.core_book.specs.Kept.{IsCase}
+use Rattle.core_book.specs.WellFormed.{IsCase}
 use Rattle.core_model.specs.declared.cert.Weights.{Weights}
 use Rattle.core_model.specs.Closing.{Plan, line_count, IsAdmissible, closed_on, closed_in, closed_of, pooled, pooled_by}
 use Rattle.core_model.specs.Layout.{pool_weight}

@@ -9,7 +9,7 @@ use Rattle.core_sums.specs.Sums.{sum_days, total, greatest_to}
 use Rattle.core_sums.specs.Widths.{any_leaves}
 use Rattle.core_sums.proofs.SumLaws.{greatest_to-reached}
 use Rattle.core_book.specs.View.{CaseView, line, pool, tiers, limit, counts, is_allowed}
-use Rattle.core_book.specs.Kept.{IsCase}
+use Rattle.core_book.specs.WellFormed.{IsCase}
 use Rattle.core_book.specs.declared.parts.Side.{Side}
 use Rattle.core_book.specs.declared.parts.Side.TheVariants.{Position, Collateral}
 use Rattle.core_model.specs.declared.cert.Weights.{Weights}

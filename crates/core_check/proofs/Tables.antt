@@ -4,7 +4,7 @@ use Rattle.std.proofs.Math.Nat.{mul-le-mul}
 use Rattle.core_sums.specs.Places.{below}
 use Rattle.core_sums.proofs.Joined.{each-none, each-below-more}
 use Rattle.core_book.specs.View.{CaseView, tiers}
-use Rattle.core_book.specs.Kept.{IsCase}
+use Rattle.core_book.specs.WellFormed.{IsCase}
 use Rattle.core_model.proofs.FewLines.{lines-few}
 use Rattle.core_model.specs.declared.layout.ClosingCell.{ClosingCell}
 use Rattle.core_model.specs.declared.layout.DayCell.{DayCell}

@@ -3,7 +3,7 @@ use Rattle.std.proofs.Common.{◌≡◌, sym, ◌∙◌, ap, ℤ, pos, ◌*ℤ�
 use Rattle.std.specs.List.{list_all}
 use Rattle.core_sums.specs.Sums.{total}
 use Rattle.core_book.specs.View.{CaseView}
-use Rattle.core_book.specs.Kept.{IsCase}
+use Rattle.core_book.specs.WellFormed.{IsCase}
 use Rattle.core_model.specs.declared.cert.Weights.{Weights}
 use Rattle.core_model.specs.declared.cert.Cert.TheVariants.{Closes, Cannot}
 use Rattle.core_model.specs.Closing.{Plan, IsAdmissible, IsLeast, worst_loss}

@@ -7,7 +7,7 @@ use Rattle.core_sums.proofs.Ring.{*ℤ-distr_left, *ℤ-distr_right, *ℤ-middle
 use Rattle.core_sums.proofs.Order.{times-le}
 use Rattle.core_sums.proofs.Grids.{sum_grid-cong, sum_grid-plus, sum_grid-scale, sum_grid-zero}
 use Rattle.core_book.specs.View.{CaseView, line, pool, limit}
-use Rattle.core_book.specs.Kept.{IsCase}
+use Rattle.core_book.specs.WellFormed.{IsCase}
 use Rattle.core_model.specs.declared.cert.Weights.{Weights}
 use Rattle.core_model.specs.Closing.{Plan, line_count, IsAdmissible, fixed, cash_of, loss_of, CannotClose}
 use Rattle.core_model.specs.Bounds.{AreWeights, AreRefusing, sum_losses, sum_limits, sum_pools, bound}

@@ -1,7 +1,7 @@
 -- Laws that the crate's public functions state.
 use Rattle.std.specs.Prelude.{◌≡◌, ℕ, ◌*ℤ◌}
 use Rattle.core_book.specs.View.{CaseView}
-use Rattle.core_book.specs.Kept.{IsCase}
+use Rattle.core_book.specs.WellFormed.{IsCase}
 use Rattle.core_model.specs.declared.cert.Weights.{Weights}
 use Rattle.core_model.specs.declared.cert.Cert.{Cert}
 use Rattle.core_model.specs.Closing.{Plan, IsAdmissible, worst_loss, IsLeast, CannotClose}

@@ -4,7 +4,7 @@ ghost use Rattle.core_sums.specs.Places.{at};
 ghost use Rattle.core_book.specs.View.{limit, line, pool};
 ghost use Rattle.core_model.specs.Closing.{fixed, line_count};
 ghost use Rattle.core_model.specs.Layout.{day_at_place, house_day_at_place, pool_at_place, row_at_place, tier_at_place};
-ghost use Rattle.core_model.specs.Fits.{IsKept};
+ghost use Rattle.core_model.specs.Fits.{IsWithin128};
 ghost use Rattle.core_model.specs.Check.{bound_terms, meets_test, refuses_test};
 ghost use Rattle.core_wide.specs.Steps.{summed, with_product};
 ghost use Rattle.core_check.specs.Steps.{judged};
@@ -102,7 +102,7 @@ fn bound(weights: &WeightsAndFlows) -> Option<i128>
 
 /// Whether the bound is the loss of a calendar, both over their denominators, or None where a number leaves.
 pub(crate) fn meets(weights: &WeightsAndFlows, den: i128, loss: i128) -> Option<bool>
-    requires loss { IsKept loss }
+    requires loss { IsWithin128 loss }
     requires den { pos 1 ≤ℤ den }
     requires weights_den { pos 1 ≤ℤ weights.now.of_case.weights.den }
     ensures { result ≡ judged (meets_test

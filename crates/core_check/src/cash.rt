@@ -4,7 +4,7 @@ ghost use Rattle.std.specs.Ordering.{int_eq};
 ghost use Rattle.core_sums.specs.Sums.{total};
 ghost use Rattle.core_model.specs.Layout.{house_day_at_place, scenario_at_place, scenario_count};
 ghost use Rattle.core_model.specs.OfCase.{planned};
-ghost use Rattle.core_model.specs.Fits.{IsKept};
+ghost use Rattle.core_model.specs.Fits.{IsWithin128};
 ghost use Rattle.core_model.specs.Check.{by_scenario_and_day, cash_terms, loss_test, places_of, reached_test};
 ghost use Rattle.core_model.specs.declared.condition.Condition.TheVariants.{Losses, WorstLoss};
 ghost use Rattle.core_check.specs.Answers.{answer};
@@ -58,7 +58,7 @@ fn cash(calendar: &CalendarAndFlows, on: DayCell) -> Option<i128>
 
 /// Whether the loss of a scenario on a day is at most the calendar's, or None where a number leaves.
 fn is_covered(calendar: &CalendarAndFlows, loss: i128, place: usize) -> Option<bool>
-    requires loss { IsKept loss }
+    requires loss { IsWithin128 loss }
     requires place { place < scenario_count calendar.now.of_case.case }
     ensures { result ≡ judged (loss_test
         calendar.now.of_case.case (planned calendar.now.of_case) loss
@@ -73,7 +73,7 @@ fn is_covered(calendar: &CalendarAndFlows, loss: i128, place: usize) -> Option<b
 
 /// Whether the loss of a scenario on a day is the calendar's, where no number of it leaves.
 fn is_reached_at(calendar: &CalendarAndFlows, loss: i128, place: usize) -> bool
-    requires loss { IsKept loss }
+    requires loss { IsWithin128 loss }
     requires place { place < scenario_count calendar.now.of_case.case }
     requires stays { LossesStay calendar.now.of_case.case (planned calendar.now.of_case) loss }
     ensures { result ≡ int_eq (neg_ℤ (total (cash_terms
@@ -91,7 +91,7 @@ fn is_reached_at(calendar: &CalendarAndFlows, loss: i128, place: usize) -> bool
 
 /// Whether the loss of some scenario on some day is the calendar's, where no number of them leaves.
 fn is_reached(calendar: &CalendarAndFlows, loss: i128) -> bool
-    requires loss { IsKept loss }
+    requires loss { IsWithin128 loss }
     requires stays { LossesStay calendar.now.of_case.case (planned calendar.now.of_case) loss }
     ensures { result ≡ (reached_test
         calendar.now.of_case.case (planned calendar.now.of_case) loss).holds }
@@ -107,7 +107,7 @@ fn is_reached(calendar: &CalendarAndFlows, loss: i128) -> bool
 
 /// Whether each loss is at most the calendar's.
 fn check_covered(calendar: &CalendarAndFlows, loss: i128) -> Result<(), CheckFault>
-    requires loss { IsKept loss }
+    requires loss { IsWithin128 loss }
     ensures { result ≡ answer
         (places_of Losses 1 (by_scenario_and_day calendar.now.of_case.case (loss_test
         calendar.now.of_case.case (planned calendar.now.of_case) loss))) }
@@ -120,7 +120,7 @@ fn check_covered(calendar: &CalendarAndFlows, loss: i128) -> Result<(), CheckFau
 
 /// Whether the calendar's loss is the worst of all: each is at most it, and one is as great.
 pub(crate) fn check_loss(calendar: &CalendarAndFlows, loss: i128) -> Result<(), CheckFault>
-    requires loss { IsKept loss }
+    requires loss { IsWithin128 loss }
     ensures { result ≡ answer
         (places_of Losses 1 (by_scenario_and_day calendar.now.of_case.case (loss_test
         calendar.now.of_case.case (planned calendar.now.of_case) loss))

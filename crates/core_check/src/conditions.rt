@@ -2,7 +2,7 @@
 ghost use Rattle.std.specs.Prelude.{◌≡◌, ◌++◌, ◌∷◌, []};
 ghost use Rattle.core_model.specs.OfCase.{planned};
 ghost use Rattle.core_model.specs.Check.{by_closing, calendar_places, charge_test, places, places_of, sum_test, weight_tests};
-ghost use Rattle.core_model.specs.Fits.{Fits, IsKept};
+ghost use Rattle.core_model.specs.Fits.{Fits, IsWithin128};
 ghost use Rattle.core_model.specs.declared.cert.Cert.TheVariants.{Cannot, Closes};
 ghost use Rattle.core_model.specs.declared.condition.Condition.TheVariants.{Charges, WeightSigns, WeightSum};
 ghost use Rattle.core_check.specs.Answers.{answer};
@@ -20,7 +20,7 @@ use core_model::{Cert, Condition};
 
 /// The conditions on a calendar and its loss, 2 to 8.
 fn check_calendar(calendar: &CalendarAndFlows, loss: i128) -> Result<(), CheckFault>
-    requires loss { IsKept loss }
+    requires loss { IsWithin128 loss }
     ensures { result ≡ answer (calendar_places
         calendar.now.of_case.case (planned calendar.now.of_case) loss) }
 {
@@ -53,7 +53,7 @@ fn check_closes(
     loss: i128,
     weights: &WeightsAndFlows,
 ) -> Result<(), CheckFault>
-    requires loss { IsKept loss }
+    requires loss { IsWithin128 loss }
     requires same_case { weights.now.of_case.case ≡ calendar.now.of_case.case }
     ensures { result ≡ answer (places calendar.now.of_case.case
         (Closes calendar.now.of_case.calendar loss weights.now.of_case.weights)) }

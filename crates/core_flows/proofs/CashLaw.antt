@@ -7,7 +7,7 @@ use Rattle.core_sums.specs.Sums.{sum_below, sum_days}
 use Rattle.core_sums.proofs.SumLaws.{sum_below-cong, sum_below-zero}
 use Rattle.core_sums.proofs.Grids.{sum_grid-cong}
 use Rattle.core_book.specs.View.{CaseView, line, instrument_of, tiers, cost, is_open, is_allowed, no_line}
-use Rattle.core_book.specs.Kept.{IsCase, IsLine}
+use Rattle.core_book.specs.WellFormed.{IsCase, IsLine}
 use Rattle.core_book.specs.declared.parts.Kind.{Kind}
 use Rattle.core_book.specs.declared.parts.Kind.TheVariants.{Future, Security}
 use Rattle.core_book.specs.declared.parts.Side.{Side}

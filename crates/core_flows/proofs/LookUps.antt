@@ -2,7 +2,7 @@
 use Rattle.std.proofs.Common.{◌≡◌, refl, sym, ◌∙◌, ap, ℕ, ◌<◌, ◌≤◌, ℤ, pos, ◌-ℤ◌, ◌*ℤ◌, subst, arith, Bool, true, false, ◌&&◌, ◌==◌, nat_le, List, length, get_or, Option, None, is_some, Vec, Global, suc, if◌then◌else◌}
 use Rattle.std.proofs.lemmas.Bool.{leb-true}
 use Rattle.core_book.specs.View.{CaseView, instrument, instrument_of, line, price, is_open, pays, counts, is_traded, tiers_of, is_allowed}
-use Rattle.core_book.specs.Kept.{IsCase}
+use Rattle.core_book.specs.WellFormed.{IsCase}
 use Rattle.core_book.specs.declared.parts.Instr.{Instr}
 use Rattle.core_book.specs.declared.parts.Line.{Line}
 use Rattle.core_book.specs.declared.parts.Kind.{Kind}

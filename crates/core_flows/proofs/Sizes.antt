@@ -8,9 +8,9 @@ use Rattle.std.proofs.Math.Nat.{mul-le-mul}
 use Rattle.core_sums.specs.Sums.{sum_below}
 use Rattle.core_sums.specs.Places.{row_at}
 use Rattle.core_sums.proofs.SumLaws.{sum_below-more}
-use Rattle.core_sums.proofs.Kept.{abs-within}
+use Rattle.core_sums.proofs.Within128.{abs-within}
 use Rattle.core_book.specs.View.{CaseView, cost, cash, pays, no_tier}
-use Rattle.core_book.specs.Kept.{IsCase}
+use Rattle.core_book.specs.WellFormed.{IsCase}
 use Rattle.core_book.proofs.Depth.{depth-kept}
 use Rattle.core_model.specs.Closing.{is_by}
 use Rattle.core_flows.specs.Units.{last_paid, marked_to}

@@ -8,7 +8,7 @@ use Rattle.core_sums.proofs.Ring.{*ℤ-pos_one}
 use Rattle.core_sums.proofs.SumLaws.{sum_below-cong, sum_below-none, sum_below-plus, sum_below-scale, sum_below-cut, sum_below-single, sum_below-zero}
 use Rattle.core_days.specs.Days.{open_day_before}
 use Rattle.core_book.specs.View.{CaseView, instrument_of, tiers, cost, price, is_open, pays, day_before}
-use Rattle.core_book.specs.Kept.{IsCase}
+use Rattle.core_book.specs.WellFormed.{IsCase}
 use Rattle.core_book.specs.declared.parts.Kind.{Kind}
 use Rattle.core_book.specs.declared.parts.Kind.TheVariants.{Future, Security}
 use Rattle.core_model.specs.Closing.{sum_tiers, closed_on, size, price_of, price_change, kind_of, flow_by, flow, cost_flow, paid_by, still_open, is_by}

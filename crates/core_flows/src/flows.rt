@@ -1,6 +1,6 @@
 // The flows of a case.
 ghost use Rattle.std.specs.Prelude.{◌≡◌, ◌+◌, ◌*◌, ◌^◌, ◌<◌, ◌≤◌, suc, length, true, unsigned_abs, IfOk};
-ghost use Rattle.core_book.specs.Kept.{IsCase};
+ghost use Rattle.core_book.specs.WellFormed.{IsCase};
 ghost use Rattle.core_book.specs.View.{is_allowed};
 ghost use Rattle.core_model.specs.Closing.{fixed};
 ghost use Rattle.core_model.specs.Bounds.{unit};

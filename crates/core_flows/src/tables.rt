@@ -2,7 +2,7 @@
 ghost use Rattle.std.specs.Prelude.{◌≡◌, ◌<◌, ◌≤◌, suc, length, get_or, None, if◌then◌else◌, IfOk};
 ghost use Rattle.core_days.specs.Days.{open_day_before};
 ghost use Rattle.core_book.specs.View.{pays};
-ghost use Rattle.core_book.specs.Kept.{IsCase};
+ghost use Rattle.core_book.specs.WellFormed.{IsCase};
 ghost use Rattle.core_model.specs.Closing.{is_by};
 ghost use Rattle.core_flows.specs.Units.{last_paid};
 ghost use Rattle.core_flows.specs.Tables.{IsTable, IsPayTable};

@@ -1,6 +1,6 @@
 // What one unit of a line pays, by the pay days of its instrument.
 ghost use Rattle.std.specs.Prelude.{◌≡◌, ◌+◌, ◌*◌, ◌^◌, ◌<◌, ◌≤◌, ◌-ℤ◌, ◌*ℤ◌, length, true, unsigned_abs};
-ghost use Rattle.core_book.specs.Kept.{IsCase};
+ghost use Rattle.core_book.specs.WellFormed.{IsCase};
 ghost use Rattle.core_book.specs.View.{instrument_of, price, is_allowed};
 ghost use Rattle.core_model.specs.Closing.{kind_of, size};
 ghost use Rattle.core_model.specs.Bounds.{unit};

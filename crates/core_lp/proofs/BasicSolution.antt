@@ -12,7 +12,7 @@ use Rattle.fractions.proofs.Laws.{*ℚ-one, *ℚ_comm, ≤ℚ-from-lt}
 use Rattle.fractions.proofs.Signs.{times_not_negative}
 use Rattle.fractions.proofs.Sums.{sum_same}
 use Rattle.core_book.specs.View.{CaseView}
-use Rattle.core_book.specs.Kept.{IsCase}
+use Rattle.core_book.specs.WellFormed.{IsCase}
 use Rattle.core_model.specs.Closing.{Plan, line_count, IsClosing, ClosesAsAllowed}
 use Rattle.core_model.specs.Closing.{IsAdmissible}
 use Rattle.core_model.specs.Layout.{plan_of}

@@ -7,7 +7,7 @@ use Rattle.algebra.proofs.Integers.{int_ring}
 use Rattle.core_sums.specs.Places.{at}
 use Rattle.core_sums.proofs.Order.{times-cancel}
 use Rattle.core_book.specs.View.{CaseView}
-use Rattle.core_book.specs.Kept.{IsCase}
+use Rattle.core_book.specs.WellFormed.{IsCase}
 use Rattle.core_model.specs.Closing.{Plan, IsAdmissible, worst_loss, fixed}
 use Rattle.core_model.specs.Layout.{plan_of}
 use Rattle.core_model.specs.Bounds.{AreBounding, bound}

@@ -9,7 +9,7 @@ use Rattle.core_sums.proofs.SumLaws.{sum_below-cong}
 use Rattle.core_book.specs.View.{CaseView, instrument, instrument_of, pays, counts, is_traded}
 use Rattle.core_book.specs.View.{tiers, tiers_of}
 use Rattle.core_book.specs.View.{is_allowed}
-use Rattle.core_book.specs.Kept.{IsCase}
+use Rattle.core_book.specs.WellFormed.{IsCase}
 use Rattle.core_book.proofs.Depth.{within-depth}
 use Rattle.core_model.specs.Closing.{line_count, IsClosing}
 use Rattle.core_model.proofs.Sizes.{instrument-known}

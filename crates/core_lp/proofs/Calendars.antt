@@ -10,7 +10,7 @@ use Rattle.core_sums.specs.Sums.{sum_days, greatest_to}
 use Rattle.core_sums.proofs.Order.{times-nonneg}
 use Rattle.core_sums.proofs.SumLaws.{greatest_to-bounds, greatest_to-le}
 use Rattle.core_book.specs.View.{CaseView, line, pool, limit, tiers, counts, is_allowed}
-use Rattle.core_book.specs.Kept.{IsCase}
+use Rattle.core_book.specs.WellFormed.{IsCase}
 use Rattle.core_book.specs.declared.parts.Side.{Side}
 use Rattle.core_book.specs.declared.parts.Side.TheVariants.{Position, Collateral}
 use Rattle.core_model.specs.Closing.{Plan, line_count, IsClosingDay, IsTierNumber, IsClosing, closed_on, closed_in}

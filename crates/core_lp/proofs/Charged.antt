@@ -10,7 +10,7 @@ use Rattle.core_sums.proofs.Ring.{*ℤ-distr_left, *ℤ-distr_right, *ℤ-pos_on
 use Rattle.core_sums.proofs.SumLaws.{sum_below-cong, sum_below-none, sum_below-plus}
 use Rattle.core_sums.proofs.SumLaws.{sum_below-scale_right, sum_below-neg, sum_below-first}
 use Rattle.core_book.specs.View.{CaseView, line, instrument_of, member, pool, tiers, limit, counts}
-use Rattle.core_book.specs.Kept.{IsCase}
+use Rattle.core_book.specs.WellFormed.{IsCase}
 use Rattle.core_model.specs.declared.cert.Weights.{Weights}
 use Rattle.core_model.specs.Closing.{line_count, IsClosingDay, IsClosing, fixed}
 use Rattle.core_model.specs.Layout.{scenario_weight, limit_weight, pool_weight, full_weight}

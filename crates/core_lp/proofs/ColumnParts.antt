@@ -11,7 +11,7 @@ use Rattle.core_sums.proofs.SumLaws.{sum_below-scale_right, sum_below-neg, sum_b
 use Rattle.core_sums.proofs.SumLaws.{sum_below-single}
 use Rattle.core_sums.proofs.Order.{sum_below-grouped}
 use Rattle.core_book.specs.View.{CaseView, instrument_of, member, tiers, counts}
-use Rattle.core_book.specs.Kept.{IsCase}
+use Rattle.core_book.specs.WellFormed.{IsCase}
 use Rattle.core_book.specs.declared.parts.Side.{Side}
 use Rattle.core_book.specs.declared.parts.Side.TheVariants.{Position, Collateral}
 use Rattle.core_model.specs.Closing.{IsClosingDay, IsTierNumber, sum_tiers, fixed}

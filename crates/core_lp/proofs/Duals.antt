@@ -14,7 +14,7 @@ use Rattle.fractions.proofs.Field.{field}
 use Rattle.fractions.proofs.Sums.{sum_alone}
 use Rattle.fractions.proofs.Whole.{whole-plus, whole-times, whole-neg, same_from_whole}
 use Rattle.core_book.specs.View.{CaseView}
-use Rattle.core_book.specs.Kept.{IsCase}
+use Rattle.core_book.specs.WellFormed.{IsCase}
 use Rattle.core_dict.specs.Programme.{ProgrammeView, height, entry, bound}
 use Rattle.core_dict.specs.Dictionary.{Dictionary, start, cost_of, CostsNotNegative, cost_at}
 use Rattle.core_dict.specs.Dictionary.{value_of}

@@ -6,7 +6,7 @@ use Rattle.std.proofs.lemmas.Bool.Decides.{nat_tests}
 use Rattle.core_sums.specs.Sums.{sum_below}
 use Rattle.core_sums.specs.Places.{at}
 use Rattle.core_sums.specs.Widths.{most, leaves}
-use Rattle.core_sums.proofs.Kept.{stays-kept}
+use Rattle.core_sums.proofs.Within128.{stays-kept}
 use Rattle.core_book.specs.View.{CaseView, cash}
 use Rattle.core_model.specs.Closing.{fixed}
 use Rattle.core_lp.specs.declared.names.Col.TheVariants as col

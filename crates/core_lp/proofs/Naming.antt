@@ -3,7 +3,7 @@ use Rattle.std.proofs.Common.{◌≡◌, ◌*◌, ◌<◌, ◌≤◌, ℕ, lengt
 use Rattle.std.proofs.Math.Nat.{mul-le-mul}
 use Rattle.core_sums.specs.Places.{below, days_to, each}
 use Rattle.core_book.specs.View.{CaseView, line, tiers, is_allowed}
-use Rattle.core_book.specs.Kept.{IsCase}
+use Rattle.core_book.specs.WellFormed.{IsCase}
 use Rattle.core_book.proofs.Depth.{few-depth}
 use Rattle.core_model.specs.Closing.{line_count}
 use Rattle.core_model.specs.Layout.{amount_count, limit_count, pool_count}

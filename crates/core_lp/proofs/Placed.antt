@@ -9,7 +9,7 @@ use Rattle.std.proofs.lemmas.Int.{ints}
 use Rattle.std.proofs.lemmas.Bool.{cases_lt, ne_eqb}
 use Rattle.std.proofs.lemmas.List.{get_or_past, take_rest}
 use Rattle.core_sums.specs.Places.{at}
-use Rattle.core_sums.specs.Widths.{IsKept}
+use Rattle.core_sums.specs.Widths.{IsWithin128}
 use Rattle.core_sums.proofs.Lists.{get_or-below}
 use Rattle.core_book.specs.View.{CaseView, line}
 use Rattle.core_book.specs.declared.parts.Side.{Side}
@@ -114,7 +114,7 @@ at-all P xs i none all = by (cases_lt i (length xs))
     by (inl l) = all i (pos 0) l
     by (inr l) = subst P (sym (get_or_past xs i (pos 0) l)) none
 
-pub nought-kept : IsKept (pos 0)
+pub nought-kept : IsWithin128 (pos 0)
 nought-kept = lit≤ tt
 
 pub nought-weight : IsWeight (pos 0)
@@ -138,10 +138,10 @@ full-weights c f x e each = subst (All IsWeight) (sym e)
     (by_place-all IsWeight (line_count c) (λ l. of_row c f (row.Full l)) (λ l. row-weight c f (row.Full l) each))
 
 -- the difference of two that are not negative is kept, and the opposite
-pub less-kept : (x y : ℤ) → IsWeight x → IsWeight y → IsKept (x -ℤ y)
+pub less-kept : (x y : ℤ) → IsWeight x → IsWeight y → IsWithin128 (x -ℤ y)
 less-kept x y h k = omega (arith, ints, h.0, h.1, k.0, k.1)
 
-pub opposite-kept : (x : ℤ) → IsWeight x → IsKept (neg_ℤ x)
+pub opposite-kept : (x : ℤ) → IsWeight x → IsWithin128 (neg_ℤ x)
 opposite-kept x h = omega (arith, ints, h.0, h.1)
 
 -- ---- the first of a list, and the rest

@@ -3,7 +3,7 @@ use Rattle.std.proofs.Common.{◌≡◌, refl, ℕ, zero, suc, ◌^◌, ◌-◌,
 use Rattle.std.proofs.Common.{◌≤ℤ◌, unsigned_abs, length, List}
 use Rattle.std.proofs.lemmas.Bool.{cases_lt}
 use Rattle.core_sums.specs.Places.{at}
-use Rattle.core_sums.specs.Widths.{IsKept, most}
+use Rattle.core_sums.specs.Widths.{IsWithin128, most}
 use Rattle.core_book.specs.View.{CaseView, line}
 use Rattle.core_book.specs.declared.parts.Side.{Side}
 use Rattle.core_book.specs.declared.parts.Side.TheVariants.{Position, Collateral}
@@ -33,11 +33,11 @@ use Rattle.core_lp.proofs.Placed.{opposite-kept}
 
 -- ---- the parts
 -- a list by place of kept numbers
-kept-by_place : (n : ℕ) (f : ℕ → ℤ) → ((i : ℕ) → IsKept (f i)) → AreKept n (by_place n f)
-kept-by_place n f each = (by_place-length n f, by_place-all IsKept n f each)
+kept-by_place : (n : ℕ) (f : ℕ → ℤ) → ((i : ℕ) → IsWithin128 (f i)) → AreKept n (by_place n f)
+kept-by_place n f each = (by_place-length n f, by_place-all IsWithin128 n f each)
 
 module _ (c : CaseView) (f : ℕ → ℤ) (each : (i : ℕ) → IsWeight (f i)) where
-  full-kept : (side : Side) (l : ℕ) → IsKept (full_placed c f l side)
+  full-kept : (side : Side) (l : ℕ) → IsWithin128 (full_placed c f l side)
   full-kept Position l =
       less-kept (of_row c f (row.Back l)) (of_row c f (row.Full l))
       (row-weight c f (row.Back l) each)
@@ -45,12 +45,12 @@ module _ (c : CaseView) (f : ℕ → ℤ) (each : (i : ℕ) → IsWeight (f i)) 
   full-kept Collateral l = opposite-kept (of_row c f (row.Full l))
       (row-weight c f (row.Full l) each)
 
-  scenario-kept : (first : ℤ) → IsKept first → (k t : ℕ) → IsKept (scenario_placed c first f k t)
+  scenario-kept : (first : ℤ) → IsWithin128 first → (k t : ℕ) → IsWithin128 (scenario_placed c first f k t)
   scenario-kept first h k (suc t) = (row-weight c f (row.Loss k (suc t)) each).1
   scenario-kept first h zero zero = h
   scenario-kept first h (suc k) zero = nought-kept
 
-  weights-fit : (den : ℤ) (scenario : ℕ → ℕ → ℤ) → IsKept den → ((k t : ℕ) → IsKept (scenario k t))
+  weights-fit : (den : ℤ) (scenario : ℕ → ℕ → ℤ) → IsWithin128 den → ((k t : ℕ) → IsWithin128 (scenario k t))
       → WeightsFit c (weights_placed c den scenario f)
   weights-fit den scenario h keep = record {
     den = h;
@@ -66,15 +66,15 @@ module _ (c : CaseView) (f : ℕ → ℤ) (each : (i : ℕ) → IsWeight (f i)) 
 -- the numbers of lists that are not negative
 pub positive-at : (n : ℕ) (x : Numerators) → ArePositive n x → (i : ℕ) → IsWeight (at x.list i)
 positive-at n x h i =
-    (at-all (λ z. pos 0 ≤ℤ z) x.list i nought-weight.0 h.signs, at-all IsKept x.list i nought-kept h.numerators.kept)
+    (at-all (λ z. pos 0 ≤ℤ z) x.list i nought-weight.0 h.signs, at-all IsWithin128 x.list i nought-kept h.numerators.kept)
 
 -- a loss that does not leave is kept
 loss-kept : (c : CaseView) (x : Numerators) → ¬ (LossLeaves (2 ^ 127 - 1) c x)
-    → IsKept (loss_placed c x)
+    → IsWithin128 (loss_placed c x)
 loss-kept c x stays = by (cases_lt most (unsigned_abs (loss_placed c x)))
   where
     by : (most < unsigned_abs (loss_placed c x)) ⊎ (unsigned_abs (loss_placed c x) ≤ most)
-        → IsKept (loss_placed c x)
+        → IsWithin128 (loss_placed c x)
     by (inl l) = absurd (stays (Difference l))
     by (inr l) = l
 
@@ -88,8 +88,8 @@ placed-fits c (parts.Optimal primal duals) h stays =
       record {
         den = h.0.den;
         amounts = kept-by_place (amount_count c) _
-            (λ n. beside-all IsKept same_col (col.Close (row_at_place c n) (day_at_place c n) (tier_at_place c n))
-            (columns c) (at x.list) nought-kept (λ i. at-all IsKept x.list i nought-kept h.0.kept));
+            (λ n. beside-all IsWithin128 same_col (col.Close (row_at_place c n) (day_at_place c n) (tier_at_place c n))
+            (columns c) (at x.list) nought-kept (λ i. at-all IsWithin128 x.list i nought-kept h.0.kept));
       },
       loss-kept c x stays,
       weights-fit c (λ i. at y.list (suc i)) (λ i. each (suc i)) y.den

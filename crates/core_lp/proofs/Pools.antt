@@ -5,12 +5,12 @@ use Rattle.std.proofs.lemmas.Bool.{cases_eq}
 use Rattle.std.proofs.lemmas.List.{get_or-set_same, get_or-set_other, length-set, length-map, length-replicate, get_or-replicate, ext_get_or}
 use Rattle.core_sums.specs.Sums.{sum_below}
 use Rattle.core_sums.specs.Places.{at, below}
-use Rattle.core_sums.proofs.Kept.{abs-within}
+use Rattle.core_sums.proofs.Within128.{abs-within}
 use Rattle.core_sums.proofs.SumLaws.{sum_below-none, sum_below-more}
 use Rattle.core_sums.proofs.Lists.{length-below, get_or-below}
 use Rattle.core_sums.proofs.Joined.{each-single, each-more}
 use Rattle.core_book.specs.View.{CaseView, member, no_member}
-use Rattle.core_book.specs.Kept.{IsCase, IsMember}
+use Rattle.core_book.specs.WellFormed.{IsCase, IsMember}
 use Rattle.core_lp.specs.CaseProgramme.{only_if, weight_in, weights_in, weights_of}
 use Rattle.core_lp.proofs.Sums.{only-false, both_first, both_second}
 

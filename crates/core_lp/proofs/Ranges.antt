@@ -8,9 +8,9 @@ use Rattle.std.proofs.lemmas.List.Elements.{All-get_or}
 use Rattle.std.specs.List.{All}
 use Rattle.core_sums.specs.Places.{at, row_at}
 use Rattle.core_book.specs.View.{CaseView, TierView, no_tier, tier, limit}
-use Rattle.core_book.specs.Kept.{IsCase, IsTier, AreTiers, IsIn}
+use Rattle.core_book.specs.WellFormed.{IsCase, IsTier, AreTiers, IsIn}
 use Rattle.core_book.proofs.Depth.{depth-kept}
-use Rattle.core_sums.proofs.Kept.{abs-within}
+use Rattle.core_sums.proofs.Within128.{abs-within}
 
 -- 0 is not negative
 nought : pos 0 ≤ℤ pos 0

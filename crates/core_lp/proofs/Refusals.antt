@@ -10,7 +10,7 @@ use Rattle.fractions.specs.Fraction.{Fraction, zero_q, one_q, ◌*ℚ◌, ◌≤
 use Rattle.fractions.proofs.Laws.{≤ℚ-from-lt}
 use Rattle.fractions.proofs.Values.{value_zero, value_one, lt_from_values}
 use Rattle.core_book.specs.View.{CaseView}
-use Rattle.core_book.specs.Kept.{IsCase}
+use Rattle.core_book.specs.WellFormed.{IsCase}
 use Rattle.core_model.specs.Shows.{Shows}
 use Rattle.core_model.specs.Bounds.{AreRefusing}
 use Rattle.core_check.proofs.Weak.{refusing_shows}

@@ -8,7 +8,7 @@ use Rattle.core_sums.specs.Sums.{sum_days}
 use Rattle.core_sums.specs.Places.{at}
 use Rattle.core_sums.proofs.SumLaws.{sum_below-single, sum_below-zero, sum_below-nonneg, term-none}
 use Rattle.core_book.specs.View.{CaseView, line}
-use Rattle.core_book.specs.Kept.{IsCase}
+use Rattle.core_book.specs.WellFormed.{IsCase}
 use Rattle.core_book.specs.declared.parts.Side.{Side}
 use Rattle.core_book.specs.declared.parts.Side.TheVariants.{Position, Collateral}
 use Rattle.core_model.specs.declared.cert.Weights.{Weights}

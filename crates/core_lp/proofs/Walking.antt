@@ -7,7 +7,7 @@ use Rattle.std.proofs.Common.{arith}
 use Rattle.std.proofs.lemmas.List.{drop_all}
 use Rattle.core_sums.specs.Places.{below, at, each}
 use Rattle.core_book.specs.View.{CaseView, is_allowed}
-use Rattle.core_book.specs.Kept.{IsCase}
+use Rattle.core_book.specs.WellFormed.{IsCase}
 use Rattle.core_model.specs.Closing.{line_count}
 use Rattle.core_model.specs.Layout.{amount_count, scenario_count, limit_count, pool_count}
 use Rattle.core_model.specs.Layout.{row_at_place}

@@ -1,7 +1,7 @@
 -- What the crate's laws say.
 use Rattle.std.specs.Prelude.{◌≡◌, ◌↔◌, ℕ, ◌-◌, ◌<◌, ◌≤◌, ℤ, ◌+ℤ◌, ◌*ℤ◌, ◌≤ℤ◌, length}
 use Rattle.core_book.specs.View.{CaseView}
-use Rattle.core_book.specs.Kept.{IsCase}
+use Rattle.core_book.specs.WellFormed.{IsCase}
 use Rattle.fractions.specs.Fraction.{zero_q, ◌≤ℚ◌, ◌<ℚ◌}
 use Rattle.core_model.specs.Closing.{Plan, ClosesAsAllowed, IsAdmissible, worst_loss, fixed}
 use Rattle.core_model.specs.Shows.{Shows}

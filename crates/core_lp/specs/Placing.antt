@@ -4,7 +4,7 @@ use Rattle.std.specs.Prelude.{◌≡◌, ℕ, zero, suc, ◌<◌, ℤ, pos, ◌-
 use Rattle.std.specs.Prelude.{List, length, map, unsigned_abs}
 use Rattle.std.specs.List.{All}
 use Rattle.core_sums.specs.Places.{below, at}
-use Rattle.core_sums.specs.Widths.{IsKept}
+use Rattle.core_sums.specs.Widths.{IsWithin128}
 use Rattle.fractions.specs.Fraction.{Fraction}
 use Rattle.fractions.specs.Common.{common_den}
 use Rattle.core_book.specs.View.{CaseView, line}
@@ -156,9 +156,9 @@ PlacedLeaves most c (parts.Cannot farkas) = ⊥
 -- so many numbers that 128 bits keep, over a denominator of 1 at least
 pub record AreNumerators (n : ℕ) (x : Numerators) : Type 0 where
   pub above : pos 1 ≤ℤ x.den
-  pub den : IsKept x.den
+  pub den : IsWithin128 x.den
   pub count : length x.list ≡ n
-  pub kept : All IsKept x.list
+  pub kept : All IsWithin128 x.list
 
 -- and none of them is negative
 pub record ArePositive (n : ℕ) (x : Numerators) : Type 0 where

@@ -2,7 +2,7 @@
 -- the first.
 use Rattle.std.specs.Prelude.{◌≡◌, ℕ, ℤ, pos, ◌-ℤ◌, neg_ℤ, ◌≤ℤ◌, List, length, set}
 use Rattle.core_sums.specs.Places.{at}
-use Rattle.core_sums.specs.Widths.{IsKept}
+use Rattle.core_sums.specs.Widths.{IsWithin128}
 use Rattle.core_book.specs.View.{CaseView, line}
 use Rattle.core_book.specs.declared.parts.Side.{Side}
 use Rattle.core_book.specs.declared.parts.Side.TheVariants.{Position, Collateral}
@@ -85,4 +85,4 @@ line_weights c x = by_place (line_count c)
 
 -- a number that 128 bits keep and that is not negative
 abbrev pub IsWeight : ℤ → Type 0
-IsWeight z = (pos 0 ≤ℤ z) × IsKept z
+IsWeight z = (pos 0 ≤ℤ z) × IsWithin128 z

@@ -1,6 +1,6 @@
 // The columns of a case's programme, in their order.
 ghost use Rattle.std.specs.Prelude.{◌≡◌, ◌≤◌, length, IfOk};
-ghost use Rattle.core_book.specs.Kept.{IsCase};
+ghost use Rattle.core_book.specs.WellFormed.{IsCase};
 ghost use Rattle.core_model.specs.Layout.{amount_count};
 ghost use Rattle.core_lp.specs.CaseProgramme.{columns};
 

@@ -1,7 +1,7 @@
 // What the pools weigh the instruments with.
 ghost use Rattle.std.specs.Prelude.{◌≡◌, ◌^◌, ◌<◌, ◌≤◌, length, map, unsigned_abs, IfOk};
 ghost use Rattle.core_sums.specs.Places.{below};
-ghost use Rattle.core_book.specs.Kept.{IsCase};
+ghost use Rattle.core_book.specs.WellFormed.{IsCase};
 ghost use Rattle.core_lp.specs.CaseProgramme.{weight_in, weights_in, weights_of};
 
 use core_book::Case;

@@ -9,7 +9,7 @@ use Rattle.std.proofs.lemmas.List.{length-map}
 use Rattle.std.proofs.lemmas.List.Elements.{All-map, All-cons, Contains-get_or}
 use borrow.Author.Differences.{up, down}
 use Rattle.core_sums.specs.Places.{below}
-use Rattle.core_sums.specs.Widths.{most, IsKept}
+use Rattle.core_sums.specs.Widths.{most, IsWithin128}
 use Rattle.core_sums.proofs.Lists.{length-below}
 use Rattle.core_sums.proofs.Order.{times-nonneg}
 use Rattle.fractions.specs.Fraction.{Fraction, zero_q, one_q, ◌≤ℚ◌}
@@ -44,7 +44,7 @@ module _ (law : ListsAreOverCommon) (qs : List Fraction) (fits : ¬ (CommonLeave
       by (inl l) = absurd (fits (Denominator l))
       by (inr l) = l
 
-  list_kept : All IsKept (over_common qs)
+  list_kept : All IsWithin128 (over_common qs)
   list_kept k d l = by (cases_lt most (unsigned_abs (get_or (over_common qs) k d)))
     where
       by : (most < unsigned_abs (get_or (over_common qs) k d))

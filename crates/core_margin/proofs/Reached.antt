@@ -1,7 +1,7 @@
 -- The dictionaries of a case's run, and the certificates of those at which it ends.
 use Rattle.std.proofs.Common.{sym, subst}
 use Rattle.core_book.specs.View.{CaseView}
-use Rattle.core_book.specs.Kept.{IsCase}
+use Rattle.core_book.specs.WellFormed.{IsCase}
 use Rattle.core_model.specs.declared.cert.Cert.{Cert}
 use Rattle.core_model.specs.Shows.{Shows}
 use Rattle.core_model.specs.Check.{IsValid}

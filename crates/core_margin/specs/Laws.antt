@@ -1,7 +1,7 @@
 -- What the crate's laws say.
 use Rattle.std.specs.Prelude.{◌≡◌, ◌↔◌, ℕ}
 use Rattle.core_book.specs.View.{CaseView}
-use Rattle.core_book.specs.Kept.{IsCase}
+use Rattle.core_book.specs.WellFormed.{IsCase}
 use Rattle.core_model.specs.declared.cert.Cert.{Cert}
 use Rattle.core_model.specs.Shows.{Shows}
 use Rattle.core_model.specs.Check.{IsValid}

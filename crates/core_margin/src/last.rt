@@ -1,7 +1,7 @@
 // The certificate of the last dictionary of a run.
 ghost use Rattle.std.specs.Prelude.{◌≡◌, Err, IfOk, OnOk};
 ghost use Rattle.core_sums.specs.Widths.{most};
-ghost use Rattle.core_book.specs.Kept.{IsCase};
+ghost use Rattle.core_book.specs.WellFormed.{IsCase};
 ghost use Rattle.core_model.specs.Fits.{Fits, IsPlainlyRefusing};
 ghost use Rattle.core_lp.specs.Named.{named_of};
 ghost use Rattle.core_margin.specs.Last.{turn_of, IsReached, IsCertOf, CertLeaves};

@@ -4,7 +4,7 @@ ghost use Rattle.core_model.specs.Check.{IsValid};
 ghost use Rattle.core_model.specs.Fits.{Fits, IsPlainlyRefusing};
 ghost use Rattle.core_model.specs.Shows.{Shows};
 ghost use Rattle.core_rules.specs.Candidates.{before};
-ghost use Rattle.core_rules.specs.Kept.{Keeps, rule_view};
+ghost use Rattle.core_rules.specs.Rules.{Keeps, rule_view};
 ghost use Rattle.core_run.specs.Ranked.{AreRanked, GoesByVariable};
 ghost use Rattle.core_lp.specs.Named.{named_of};
 ghost use Rattle.core_margin.specs.Last.{start_of};

@@ -3,7 +3,7 @@ use Rattle.std.proofs.Common.{◌≡◌, ◌+◌, ◌*◌, ◌<◌, ◌≤◌, i
 use Rattle.std.proofs.lemmas.Bool.{cases_lt}
 use Rattle.algebra.proofs.Counting.{pigeonhole}
 use Rattle.core_book.specs.View.{CaseView, instrument_of, line, no_line}
-use Rattle.core_book.specs.Kept.{IsCase}
+use Rattle.core_book.specs.WellFormed.{IsCase}
 use Rattle.core_book.specs.declared.parts.Side.{Side}
 use Rattle.core_book.specs.declared.parts.Side.TheVariants.{Position, Collateral}
 

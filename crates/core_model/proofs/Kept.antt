@@ -3,7 +3,7 @@ use Rattle.std.proofs.Common.{◌≡◌, ◌<◌, ◌^◌, refl, ℕ, zero, suc,
 use Rattle.std.proofs.lemmas.Int.{ints}
 use Rattle.std.specs.List.{All, AllPairs}
 use Rattle.core_rows.specs.Fields.{IsName}
-use Rattle.core_book.specs.Kept.{IsCase, IsIn, IsHoliday, AreHolidays, IsInstrument, IsTier, AreTiers, IsPool, IsMember, ArePaths, AreIn, IsLine}
+use Rattle.core_book.specs.WellFormed.{IsCase, IsIn, IsHoliday, AreHolidays, IsInstrument, IsTier, AreTiers, IsPool, IsMember, ArePaths, AreIn, IsLine}
 use Rattle.core_book.specs.declared.parts.Kind.TheVariants.{Future}
 use Rattle.core_book.specs.declared.parts.Side.TheVariants.{Position, Collateral}
 use Rattle.core_model.proofs.WorkedCases.{numbers, tier_of, instrument_of, deep}

@@ -2,10 +2,10 @@
 use Rattle.std.proofs.Common.{◌≡◌, ℕ, zero, suc, ◌*◌, ◌^◌, ◌<◌, ◌≤◌, ◌⊎◌, inl, inr, [], length, pos, negsuc, ◌-ℤ◌, ◌*ℤ◌, arith, Bool, true, false, unsigned_abs, lit≤, le_refl, FitsSigned, w64, if◌then◌else◌}
 use Rattle.std.proofs.lemmas.Int.{ints, unsigned_abs-mul, fits_signed_from_abs}
 use Rattle.std.proofs.Math.Nat.{mul-le-mul}
-use Rattle.core_sums.proofs.Kept.{abs-within}
+use Rattle.core_sums.proofs.Within128.{abs-within}
 use Rattle.core_days.specs.Days.{open_day_before}
 use Rattle.core_book.specs.View.{CaseView, instrument, line, instrument_of, price, no_line, no_instrument}
-use Rattle.core_book.specs.Kept.{IsCase, IsLine, IsInstrument}
+use Rattle.core_book.specs.WellFormed.{IsCase, IsLine, IsInstrument}
 use Rattle.core_model.specs.Closing.{line_count, size}
 
 -- a line keeps what every line keeps

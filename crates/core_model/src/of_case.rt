@@ -1,6 +1,6 @@
 // A calendar and weights, each with the case that it is of.
 ghost use Rattle.std.specs.Prelude.{◌≡◌, ◌<◌, ◌≤◌, length};
-ghost use Rattle.core_book.specs.Kept.{IsCase};
+ghost use Rattle.core_book.specs.WellFormed.{IsCase};
 ghost use Rattle.core_model.specs.Closing.{IsClosingDay, IsTierNumber, line_count};
 ghost use Rattle.core_model.specs.Fits.{CalendarFits, WeightsFit};
 ghost use Rattle.core_model.specs.Layout.{full_weight, limit_weight, plan_of, pool_weight, scenario_weight};

@@ -7,11 +7,11 @@ use Rattle.core_sums.specs.Sums.{greatest_to}
 use Rattle.core_sums.specs.Places.{at}
 use Rattle.core_sums.specs.Widths.{most, leaves, any_leaves}
 use Rattle.core_sums.proofs.SumLaws.{greatest_to-bounds, greatest_to-le}
-use Rattle.core_sums.proofs.Kept.{stays-kept}
+use Rattle.core_sums.proofs.Within128.{stays-kept}
 use Rattle.core_book.specs.View.{CaseView, cash}
 use Rattle.std.specs.Prelude.{◌*ℤ◌}
 use Rattle.core_model.specs.Closing.{Plan, cash_of, loss_of, worst_loss}
-use Rattle.core_model.specs.Fits.{IsKept}
+use Rattle.core_model.specs.Fits.{IsWithin128}
 use Rattle.core_replay.specs.Ledger.{opening_numbers, lines_numbers, paid_numbers, day_leaves, StaysIn, LeavesOn}
 use Rattle.core_replay.specs.Answers.{IsLedger, IsWorstLoss, StopsReplay, StopsWorst}
 use Rattle.core_replay.specs.Worse.{loss_at, IsWorstOfDays, IsWorstSoFar}
@@ -25,7 +25,7 @@ right-none : (xs ys : List ℤ) → any_leaves (xs ++ ys) ≡ false → any_leav
 right-none xs ys e = (or_parts (any_leaves xs) (any_leaves ys) (sym (list_any-append (leaves most) xs ys) ∙ e)).1
 
 -- a total that stays is kept
-pub cash-kept : (c : CaseView) (a : Plan) (k t : ℕ) → day_leaves c a k t ≡ false → IsKept (cash_of c a k t)
+pub cash-kept : (c : CaseView) (a : Plan) (k t : ℕ) → day_leaves c a k t ≡ false → IsWithin128 (cash_of c a k t)
 cash-kept c a k t e =
     let last = cash_of c a k t in
     let ending = paid_numbers c a k t ++ (last ∷ []) in
@@ -34,8 +34,8 @@ cash-kept c a k t e =
     let one : any_leaves (last ∷ []) ≡ false = right-none (paid_numbers c a k t) (last ∷ []) (right-none (lines_numbers c a k t) ending after_cash) in
     stays-kept last (or_parts (leaves most last) false one).0
 
-pub total-kept : (c : CaseView) (a : Plan) (k : ℕ) (ledger : Ledger) → IsLedger c a k ledger → (t : ℕ) → t ≤ c.last → IsKept (at ledger.total t)
-total-kept c a k ledger is t within = subst IsKept (sym (is.total.each t within)) (cash-kept c a k t (is.stays t within))
+pub total-kept : (c : CaseView) (a : Plan) (k : ℕ) (ledger : Ledger) → IsLedger c a k ledger → (t : ℕ) → t ≤ c.last → IsWithin128 (at ledger.total t)
+total-kept c a k ledger is t within = subst IsWithin128 (sym (is.total.each t within)) (cash-kept c a k t (is.stays t within))
 
 -- ---- days
 

@@ -3,7 +3,7 @@ ghost use Rattle.std.specs.Prelude.{◌≡◌, ℕ, ◌<◌, ◌≤◌, ◌+◌,
 ghost use Rattle.core_sums.specs.Places.{at};
 ghost use Rattle.core_model.specs.Layout.{plan_of};
 ghost use Rattle.core_model.specs.OfCase.{planned};
-ghost use Rattle.core_model.specs.Fits.{CalendarFits, IsKept};
+ghost use Rattle.core_model.specs.Fits.{CalendarFits, IsWithin128};
 ghost use Rattle.core_replay.specs.Answers.{IsWorstLoss, StopsWorst};
 ghost use Rattle.core_replay.specs.Worse.{loss_at, IsWorstOfDays};
 
@@ -36,7 +36,7 @@ fn worse(first: WorstLoss, other: WorstLoss) -> WorstLoss
 /// The loss of a day of a scenario's ledger: minus its total.
 fn loss_on(ledger: &Ledger, scenario: usize, day: u8) -> WorstLoss
     requires day { day < length ledger.now.total }
-    requires kept { IsKept (at ledger.now.total day) }
+    requires kept { IsWithin128 (at ledger.now.total day) }
     ensures { result ≡ loss_at ledger.now.total scenario day }
 {
     let loss = -ledger.total.get(usize::from(day));
@@ -51,7 +51,7 @@ fn loss_on(ledger: &Ledger, scenario: usize, day: u8) -> WorstLoss
 fn worst_day(ledger: &Ledger, scenario: usize, last: u8) -> WorstLoss
     requires days { last < length ledger.now.total }
     requires few { last ≤ 40 }
-    requires kept { (t : ℕ) → t ≤ last → IsKept (at ledger.now.total t) }
+    requires kept { (t : ℕ) → t ≤ last → IsWithin128 (at ledger.now.total t) }
     ensures { IsWorstOfDays (λ t. neg_ℤ (at ledger.now.total t)) scenario (last + 1) result }
 {
     let mut worst = loss_on(ledger, scenario, 0);

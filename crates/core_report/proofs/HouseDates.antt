@@ -11,7 +11,7 @@ use Rattle.core_rows.specs.Fields.{day_of}
 use Rattle.core_rows.proofs.Dates.{year-of-day}
 use Rattle.core_rows.specs.Written.{date_text}
 use Rattle.core_book.specs.View.{CaseView, date}
-use Rattle.core_book.specs.Kept.{IsCase}
+use Rattle.core_book.specs.WellFormed.{IsCase}
 use Rattle.core_report.specs.Report.{AreDates}
 
 -- a date from 1900 on is of a year that ten bytes can write

@@ -8,12 +8,12 @@ use Rattle.core_sums.specs.Sums.{total}
 use Rattle.core_sums.specs.Places.{at}
 use Rattle.core_sums.specs.Widths.{most, leaves, any_leaves}
 use Rattle.core_sums.proofs.Joined.{map-cong}
-use Rattle.core_sums.proofs.Kept.{stays-kept}
+use Rattle.core_sums.proofs.Within128.{stays-kept}
 use Rattle.core_wide.specs.Steps.{summed}
 use Rattle.core_wide.proofs.Adding.{summed-stays}
 use Rattle.core_book.specs.View.{CaseView, cash}
 use Rattle.core_model.specs.Closing.{Plan, cash_of, loss_of}
-use Rattle.core_model.specs.Fits.{AreKept, IsKept}
+use Rattle.core_model.specs.Fits.{AreKept, IsWithin128}
 use Rattle.core_replay.specs.Ledger.{day_leaves, flows_until, lines_numbers, opening_numbers, paid_numbers, paid_on, StaysIn}
 use Rattle.core_replay.specs.Answers.{AreByDay, IsLedger, StopsReplay, StopsWorst}
 use Rattle.core_replay.specs.declared.ledger.Ledger.{Ledger}
@@ -34,7 +34,7 @@ parts-none : (xs ys : List ℤ) → any_leaves (xs ++ ys) ≡ false → (any_lea
 parts-none xs ys e = or_parts (any_leaves xs) (any_leaves ys) (sym (list_any-append (leaves most) xs ys) ∙ e)
 
 -- what is paid on a day that stays is kept
-paid-kept : (c : CaseView) (a : Plan) (k t : ℕ) → t ≤ c.last → day_leaves c a k t ≡ false → IsKept (paid_on c a k t)
+paid-kept : (c : CaseView) (a : Plan) (k t : ℕ) → t ≤ c.last → day_leaves c a k t ≡ false → IsWithin128 (paid_on c a k t)
 unfolding summed
 paid-kept c a k t within e =
     let first = a.den *ℤ cash c t in
@@ -48,11 +48,11 @@ paid-kept c a k t within e =
     stays-kept (paid_on c a k t) (summed-stays first (paid_on c a k t) [] due both.0 formed)
 
 -- a list by house day is kept where its numbers are
-by-day-kept : (c : CaseView) (f : ℕ → ℤ) (xs : List ℤ) → AreByDay c f xs → ((t : ℕ) → t ≤ c.last → IsKept (f t)) → AreKept (suc c.last) xs
+by-day-kept : (c : CaseView) (f : ℕ → ℤ) (xs : List ℤ) → AreByDay c f xs → ((t : ℕ) → t ≤ c.last → IsWithin128 (f t)) → AreKept (suc c.last) xs
 by-day-kept c f xs are kept = (
   are.count,
-  All-from_get_or IsKept xs (pos 0)
-      (λ i under. let within : i ≤ c.last = omega (arith, under, are.count) in subst IsKept (sym (are.each i within)) (kept i within)),
+  All-from_get_or IsWithin128 xs (pos 0)
+      (λ i under. let within : i ≤ c.last = omega (arith, under, are.count) in subst IsWithin128 (sym (are.each i within)) (kept i within)),
 )
 
 pub totals-kept : (c : CaseView) (a : Plan) (k : ℕ) (ledger : Ledger) → IsLedger c a k ledger → AreKept (suc c.last) ledger.total
@@ -83,7 +83,7 @@ losses-replayed c a k ledger is =
     (λ t under. let within : t ≤ c.last = omega (arith, under) in ap (λ z. loss_on k (λ (s : ℕ). neg_ℤ z) t) (is.total.each t within))
 
 -- a loss of a day that stays is kept
-pub loss-kept : (c : CaseView) (a : Plan) (k t : ℕ) → day_leaves c a k t ≡ false → IsKept (loss_of c a k t)
+pub loss-kept : (c : CaseView) (a : Plan) (k t : ℕ) → day_leaves c a k t ≡ false → IsWithin128 (loss_of c a k t)
 loss-kept c a k t stays =
     let z = cash_of c a k t in
     let same : unsigned_abs (neg_ℤ z) ≡ unsigned_abs z = omega (arith, ints) in

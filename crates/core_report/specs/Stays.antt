@@ -6,7 +6,7 @@ use Rattle.jiff_core.specs.declared.civil.date.Date.{Date}
 use Rattle.core_sums.specs.Sums.{partial_sums}
 use Rattle.core_sums.specs.Widths.{any_leaves}
 use Rattle.core_book.specs.View.{CaseView, counts}
-use Rattle.core_model.specs.Fits.{IsKept, AreKept}
+use Rattle.core_model.specs.Fits.{IsWithin128, AreKept}
 use Rattle.core_model.specs.declared.cert.Weights.{Weights}
 use Rattle.core_model.specs.Closing.{Plan, IsClosingDay, IsTierNumber, is_pooled}
 use Rattle.core_model.specs.Check.{tier_closings, day_closings, pool_terms, bound_terms}
@@ -32,7 +32,7 @@ pub record BoundStays (c : CaseView) (w : Weights) : Type 0 where
 pub record IsPlaced (c : CaseView) (x : Loss) : Type 0 where
   pub scenario : x.scenario < length c.scenarios
   pub day : x.day ≤ c.last
-  pub kept : IsKept x.loss
+  pub kept : IsWithin128 x.loss
 
 -- a ledger of the case's house days whose numbers 128 bits keep
 pub record IsKeptLedger (c : CaseView) (ledger : Ledger) : Type 0 where

@@ -1,6 +1,6 @@
 // What a report stands on: a calendar or weights that the check accepts, with the case and its dates.
 ghost use Rattle.std.specs.Prelude.{◌≡◌, ◌≤ℤ◌, pos};
-ghost use Rattle.core_book.specs.Kept.{IsCase};
+ghost use Rattle.core_book.specs.WellFormed.{IsCase};
 ghost use Rattle.core_model.specs.Bounds.{AreRefusing};
 ghost use Rattle.core_model.specs.Fits.{CalendarFits, WeightsFit};
 ghost use Rattle.core_model.specs.OfCase.{planned};

@@ -3,7 +3,7 @@ ghost use Rattle.std.specs.Prelude.{◌≡◌, ◌<◌, ◌≤ℤ◌, ◌∷◌,
 ghost use Rattle.core_sums.specs.Places.{row_at};
 ghost use Rattle.core_rows.specs.Fields.{number_text};
 ghost use Rattle.core_rows.specs.Written.{IsPlainField, rows_text};
-ghost use Rattle.core_model.specs.Fits.{IsKept};
+ghost use Rattle.core_model.specs.Fits.{IsWithin128};
 ghost use Rattle.core_cert.specs.Written.{is_plain_word, line_fields, side_word, tier_fields};
 ghost use Rattle.core_report.specs.Records.{listed, ratio_fields};
 
@@ -77,7 +77,7 @@ impl Row {
 
     /// Adds a number.
     pub(crate) fn push_number(&mut self, number: i128) -> Result<(), AllocError>
-        requires { IsKept number }
+        requires { IsWithin128 number }
         ensures { OnOk result (self.new ≡ self.old ++ (number_text number ∷ [])) }
     {
         self.fields.push_number(number)
@@ -100,7 +100,7 @@ impl Row {
 
     /// Adds a number over a denominator, in lowest terms.
     pub(crate) fn push_ratio(&mut self, number: i128, den: i128) -> Result<(), AllocError>
-        requires number { IsKept number }
+        requires number { IsWithin128 number }
         requires den { pos 1 ≤ℤ den }
         ensures { OnOk result (self.new ≡ self.old ++ ratio_fields number den) }
     {

@@ -6,7 +6,7 @@ ghost use Rattle.core_sums.specs.Widths.{any_leaves};
 ghost use Rattle.core_book.specs.View.{counts, instrument_of, member, tiers};
 ghost use Rattle.core_model.specs.Closing.{IsClosingDay, IsTierNumber, is_pooled, line_count};
 ghost use Rattle.core_model.specs.OfCase.{planned};
-ghost use Rattle.core_model.specs.Fits.{IsKept};
+ghost use Rattle.core_model.specs.Fits.{IsWithin128};
 ghost use Rattle.core_model.specs.Check.{day_closings, pool_terms, tier_closings, weighted_closing};
 ghost use Rattle.core_wide.specs.Steps.{summed};
 
@@ -54,7 +54,7 @@ pub(crate) fn tier_closed(accepted: &AcceptedCalendar, cell: ClosingCell) -> i12
     ensures value { result ≡ total (tier_closings accepted.now.calendar.case
         (planned accepted.now.calendar)
         cell.row cell.day cell.tier) }
-    ensures kept { IsKept result }
+    ensures kept { IsWithin128 result }
 {
     tier_sum(&accepted.calendar, cell).unwrap_or(0)
 }
@@ -152,7 +152,7 @@ pub(crate) fn pool_closed(accepted: &AcceptedCalendar, p: usize, u: u8) -> i128
     requires day { IsClosingDay accepted.now.calendar.case u }
     ensures value { result ≡ total (pool_terms accepted.now.calendar.case
         (planned accepted.now.calendar) p u) }
-    ensures kept { IsKept result }
+    ensures kept { IsWithin128 result }
 {
     pool_sum(accepted, p, u).unwrap_or(0)
 }

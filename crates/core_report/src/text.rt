@@ -2,7 +2,7 @@
 ghost use Rattle.std.specs.Prelude.{◌≡◌, ◌≤ℤ◌, ◌++◌, ◌∷◌, [], codes, pos, IsTrue, OnOk, IfOk, IfErr};
 ghost use Rattle.core_rows.specs.Written.{rows_text};
 ghost use Rattle.core_model.specs.Check.{verdict, Passed};
-ghost use Rattle.core_model.specs.Fits.{Fits, IsKept};
+ghost use Rattle.core_model.specs.Fits.{Fits, IsWithin128};
 ghost use Rattle.core_model.specs.OfCase.{planned};
 ghost use Rattle.core_model.specs.Shows.{Shows};
 ghost use Rattle.core_cert.specs.Written.{is_plain_word};
@@ -59,7 +59,7 @@ fn put_ratio(
     den: i128,
 ) -> Result<(), AllocError>
     requires word { IsTrue (is_plain_word word.now) }
-    requires number { IsKept number }
+    requires number { IsWithin128 number }
     requires den { pos 1 ≤ℤ den }
     ensures { OnOk result (out.new.items
         ≡ out.old.items ++ rows_text (ratio_record word.now number den ∷ [])) }
@@ -78,7 +78,7 @@ fn put_end(alloc: Global, out: &mut Vec<u8>) -> Result<(), AllocError>
 
 /// Prints a loss, its margin, and the margin rounded up.
 fn put_loss(alloc: Global, out: &mut Vec<u8>, loss: i128, den: i128) -> Result<(), AllocError>
-    requires loss { IsKept loss }
+    requires loss { IsWithin128 loss }
     requires den { pos 1 ≤ℤ den }
     ensures { OnOk result (out.new.items ≡ out.old.items ++ rows_text (loss_records loss den)) }
 {

@@ -8,7 +8,7 @@ ghost use Rattle.itertools.specs.Extremes.{IsKLeast, by_cmp};
 ghost use Rattle.core_sums.specs.Places.{at};
 ghost use Rattle.core_rows.specs.Written.{rows_text};
 ghost use Rattle.core_model.specs.OfCase.{planned};
-ghost use Rattle.core_model.specs.Fits.{AreKept, IsKept};
+ghost use Rattle.core_model.specs.Fits.{AreKept, IsWithin128};
 ghost use Rattle.core_replay.specs.Ledger.{NoneLeaves};
 ghost use Rattle.core_report.specs.declared.fault.ReportFault.TheVariants.{NoMemory};
 ghost use Rattle.core_report.specs.Ranking.{loss_on, losses, losses_by_day};
@@ -65,7 +65,7 @@ impl PartialOrd for Loss {
 /// The loss of a house day of a scenario's ledger: minus its total.
 fn loss_on(ledger: &Ledger, scenario: usize, day: u8) -> Loss
     requires day { day < length ledger.now.total }
-    requires kept { IsKept (at ledger.now.total day) }
+    requires kept { IsWithin128 (at ledger.now.total day) }
     ensures { result ≡ loss_on scenario (λ t. neg_ℤ (at ledger.now.total t)) day }
 {
     let loss = -number(&ledger.total, usize::from(day));

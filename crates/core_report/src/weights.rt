@@ -6,7 +6,7 @@ ghost use Rattle.core_rows.specs.Written.{rows_text};
 ghost use Rattle.core_book.specs.View.{limit, line, pool};
 ghost use Rattle.core_model.specs.Closing.{IsClosingDay, IsTierNumber, line_count};
 ghost use Rattle.core_model.specs.Layout.{day_at_place, pool_at_place, pool_day_at_place, row_at_place, tier_at_place};
-ghost use Rattle.core_model.specs.Fits.{IsKept};
+ghost use Rattle.core_model.specs.Fits.{IsWithin128};
 ghost use Rattle.core_model.specs.Check.{bound_terms};
 ghost use Rattle.core_wide.specs.Steps.{with_product};
 ghost use Rattle.core_report.specs.Records.{full_weight_record, full_weight_records, limit_weight_record, limit_weight_records, listed, pool_weight_record, pool_weight_records};
@@ -85,7 +85,7 @@ fn bound(accepted: &AcceptedWeights) -> Option<i128>
 pub(crate) fn short(accepted: &AcceptedWeights) -> i128
     ensures value { result ≡ total (bound_terms accepted.now.weights.case
         accepted.now.weights.weights) }
-    ensures kept { IsKept result }
+    ensures kept { IsWithin128 result }
 {
     // Weights fit the case that they are with.
     let _fits = accepted.case();

@@ -5,7 +5,7 @@ use Rattle.fractions.specs.Fraction.{Fraction}
 use Rattle.exact_frac.specs.Value128.{value128}
 use Rattle.core_dict.specs.Dictionary.{Dictionary, IsDictionary}
 use Rattle.core_rules.specs.Candidates.{Candidate, Preference, RuleView, IsRanked}
-use Rattle.core_rules.specs.Kept.{candidate_of}
+use Rattle.core_rules.specs.Rules.{candidate_of}
 use Rattle.core_rules.specs.declared.cand.Cand.{Cand}
 use Rattle.core_run.specs.Choice.{is_negative, row_candidate}
 use Rattle.core_run.specs.Kept.{IsPickedAt, HasKeptRow}

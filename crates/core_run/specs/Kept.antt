@@ -4,7 +4,7 @@ use Rattle.fractions.specs.Fraction.{Fraction, zero_q, neg_ℚ, ◌<ℚ◌}
 use Rattle.fractions.specs.Leaves.{OverLeaves}
 use Rattle.core_dict.specs.Dictionary.{Dictionary}
 use Rattle.core_rules.specs.Candidates.{Candidate, Preference, lower_value, pick}
-use Rattle.core_rules.specs.Kept.{candidate_of}
+use Rattle.core_rules.specs.Rules.{candidate_of}
 use Rattle.core_run.specs.declared.leaving.KeptRow.{KeptRow}
 use Rattle.core_run.specs.declared.entering.KeptColumn.{KeptColumn}
 use Rattle.core_run.specs.Choice.{is_negative, row_candidate, column_candidate}

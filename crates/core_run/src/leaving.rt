@@ -1,7 +1,7 @@
 // Which row leaves.
 ghost use Rattle.std.specs.Prelude.{◌≡◌, ◌+◌, ◌<◌};
 ghost use Rattle.core_rules.specs.Candidates.{before};
-ghost use Rattle.core_rules.specs.Kept.{Keeps, rule_view};
+ghost use Rattle.core_rules.specs.Rules.{Keeps, rule_view};
 ghost use Rattle.core_run.specs.Choice.{leaving_row as leaving_row_of};
 ghost use Rattle.core_run.specs.Kept.{HasKeptRow};
 ghost use Rattle.core_run.specs.Ranked.{AreRanked};

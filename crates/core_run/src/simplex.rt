@@ -2,7 +2,7 @@
 ghost use Rattle.std.specs.Prelude.{◌≡◌, ◌≢◌, ◌+◌, ◌^◌, ◌≤◌, IfOk, IfErr, true, unsigned_abs};
 ghost use Rattle.core_dict.specs.Dictionary.{CostsNotNegative};
 ghost use Rattle.core_rules.specs.Candidates.{before};
-ghost use Rattle.core_rules.specs.Kept.{Keeps, rule_view};
+ghost use Rattle.core_rules.specs.Rules.{Keeps, rule_view};
 ghost use Rattle.core_run.specs.Answers.{outcome_of, IsAnswer};
 ghost use Rattle.core_run.specs.Ranked.{AreRanked, GoesByVariable};
 ghost use Rattle.core_run.specs.Run.{turn as turn_of, Pivots};

@@ -1,7 +1,7 @@
 // One turn of the run.
 ghost use Rattle.std.specs.Prelude.{◌≡◌, ◌+◌, ◌-◌, ◌^◌, ◌<◌, ◌↔◌, IfOk, IsErr, true, unsigned_abs};
 ghost use Rattle.core_rules.specs.Candidates.{before};
-ghost use Rattle.core_rules.specs.Kept.{Keeps, rule_view};
+ghost use Rattle.core_rules.specs.Rules.{Keeps, rule_view};
 ghost use Rattle.core_run.specs.Ranked.{AreRanked};
 ghost use Rattle.core_run.specs.Run.{turn as turn_of};
 ghost use Rattle.core_run.specs.Steps.{IsStep, RatiosLeave, HasTurned};

@@ -3,7 +3,7 @@ ghost use Rattle.std.specs.Prelude.{◌≡◌, ◌≢◌, ◌+◌, ◌-◌, ◌^
 ghost use Rattle.std.specs.Prelude.{IfOk, IfErr, IfSome, option_map};
 ghost use Rattle.core_dict.specs.Dictionary.{Dictionary, CostsNotNegative, start};
 ghost use Rattle.core_rules.specs.Candidates.{before};
-ghost use Rattle.core_rules.specs.Kept.{rule_view, Keeps};
+ghost use Rattle.core_rules.specs.Rules.{rule_view, Keeps};
 ghost use Rattle.core_run.specs.Answers.{outcome_of, IsAnswer};
 ghost use Rattle.core_run.specs.Counts.{pivots_named};
 ghost use Rattle.core_run.specs.Laws.{after};

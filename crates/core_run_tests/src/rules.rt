@@ -1,6 +1,6 @@
 ghost use Rattle.std.specs.Prelude.{◌≡◌, ◌≤◌, ◌^◌, length, unsigned_abs};
 ghost use Rattle.core_rules.specs.Candidates.{before, IsRanked};
-ghost use Rattle.core_rules.specs.Kept.{candidate_of, rule_by, rule_view, Keeps};
+ghost use Rattle.core_rules.specs.Rules.{candidate_of, rule_by, rule_view, Keeps};
 
 use crate::same::is_same;
 use core_rules::{Cand, Ranks, Rule};

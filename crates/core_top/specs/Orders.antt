@@ -4,7 +4,7 @@ use Rattle.std.specs.List.{list_all, list_any}
 use Rattle.std.specs.Str.{bytes_eq}
 use Rattle.core_book.specs.View.{CaseView}
 use Rattle.core_rules.specs.Candidates.{Preference, before}
-use Rattle.core_rules.specs.Kept.{plain_rule}
+use Rattle.core_rules.specs.Rules.{plain_rule}
 use Rattle.core_lp.specs.Ranks.{ranked}
 use Rattle.core_top.specs.declared.orders.Order.{Order}
 use Rattle.core_top.specs.declared.orders.Order.TheVariants as order

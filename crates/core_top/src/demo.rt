@@ -1,6 +1,6 @@
 // `demo N`: the margin of the demo case of N futures.
 ghost use Rattle.std.specs.Prelude.{◌≡◌, ◌≤◌, ◌≤ℤ◌, None, Some, pos, IfNone, IfSome, IfOk, IfErr};
-ghost use Rattle.core_model.specs.Fits.{IsKept};
+ghost use Rattle.core_model.specs.Fits.{IsWithin128};
 ghost use Rattle.core_gen.specs.Closed.{demo_view};
 ghost use Rattle.core_top.specs.declared.stop.Stop.TheVariants.{NoMemory};
 ghost use Rattle.core_top.specs.Words.{words_of};
@@ -68,7 +68,7 @@ fn case_of(alloc: Global, asked: &Words) -> Result<Case, Stop>
 
 /// The line of a margin: the loss, floored at nought, over its denominator in lowest terms.
 fn text_of(alloc: Global, count: u8, loss: i128, den: i128) -> Result<Vec<u8>, AllocError>
-    requires loss { IsKept loss }
+    requires loss { IsWithin128 loss }
     requires den { pos 1 ≤ℤ den }
     ensures { IfOk result (λ text. text.items ≡ demo_answer count (margin_ratio loss den)) }
 {

@@ -3,7 +3,7 @@ ghost use Rattle.std.specs.Prelude.{◌≡◌, ◌≢◌, ◌^◌, ◌≤◌, �
 ghost use Rattle.std.specs.Prelude.{None, Some, Err, IfNone, IfSome, IfOk};
 ghost use Rattle.std.specs.List.{list_all, list_any};
 ghost use Rattle.core_rules.specs.Candidates.{before, IsRanked};
-ghost use Rattle.core_rules.specs.Kept.{candidate_of, rule_by};
+ghost use Rattle.core_rules.specs.Rules.{candidate_of, rule_by};
 ghost use Rattle.core_model.specs.Check.{IsValid};
 ghost use Rattle.core_model.specs.Fits.{Fits, IsPlainlyRefusing};
 ghost use Rattle.core_model.specs.Shows.{Shows};

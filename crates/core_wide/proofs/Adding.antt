@@ -5,10 +5,10 @@ use Rattle.std.proofs.Math.Bool.{or-false}
 use Rattle.std.proofs.lemmas.Bool.{or_parts}
 use Rattle.std.proofs.lemmas.List.Folds.{list_any-append}
 use Rattle.core_sums.specs.Sums.{total, partial_sums}
-use Rattle.core_sums.specs.Widths.{most, leaves, any_leaves, IsKept}
+use Rattle.core_sums.specs.Widths.{most, leaves, any_leaves, IsWithin128}
 use Rattle.core_sums.proofs.Lists.{total-append}
 use Rattle.core_sums.proofs.Leaving.{partial_sums-append}
-use Rattle.core_sums.proofs.Kept.{kept-stays, stays-kept}
+use Rattle.core_sums.proofs.Within128.{kept-stays, stays-kept}
 use Rattle.core_wide.specs.Steps.{Leaves, Stays, summed, with_number, with_product}
 
 -- a choice between nothing and something
@@ -106,7 +106,7 @@ summed-stays s z ns xs stays e =
     ap (leaves most) (sym first.1) ∙ last-stays s xs stays parts.1
 
 -- a sum from 0 on that stays is kept
-pub sum-kept : (z : ℤ) (ns ts : List ℤ) → summed (pos 0) ns ts ≡ Some z → IsKept z
+pub sum-kept : (z : ℤ) (ns ts : List ℤ) → summed (pos 0) ns ts ≡ Some z → IsWithin128 z
 sum-kept z ns ts e = stays-kept z (summed-stays (pos 0) z ns ts refl e)
 
 -- a sum from 0 on that stays is the total of its terms
@@ -159,7 +159,7 @@ plus-stays s x z r e stays sum =
 pub plus-leaves : (s x : ℤ) → Leaves x → with_product s x ≡ None
 plus-leaves s x out = product-summed s x ∙ ap (λ b. if b || leaves most (s +ℤ x) then None else Some (s +ℤ x)) out
 
-pub plus-kept : (s x : ℤ) (r : Option ℤ) → IsKept x → MatchOption r (Leaves (s +ℤ x)) (λ w. (w ≡ s +ℤ x) × Stays (s +ℤ x)) → r ≡ with_product s x
+pub plus-kept : (s x : ℤ) (r : Option ℤ) → IsWithin128 x → MatchOption r (Leaves (s +ℤ x)) (λ w. (w ≡ s +ℤ x) × Stays (s +ℤ x)) → r ≡ with_product s x
 plus-kept s x r kept sum = plus-stays s x (s +ℤ x) r refl (kept-stays x kept) sum
 
 -- a product with a factor of 0

@@ -5,7 +5,7 @@
 ghost use Rattle.std.specs.Prelude.{◌≡◌, ◌<◌, ◌+ℤ◌, ◌-ℤ◌, ◌*ℤ◌, neg_ℤ, true, false, FitsSigned, MatchOption};
 ghost use mir.Syntax.{w128};
 ghost use Rattle.core_sums.specs.Sums.{partial_sums, total};
-ghost use Rattle.core_sums.specs.Widths.{any_leaves, IsKept};
+ghost use Rattle.core_sums.specs.Widths.{any_leaves, IsWithin128};
 ghost use Rattle.core_wide.specs.Steps.{AddsEach, Leaves, Stays, with_number, with_product};
 
 mod numbers;
@@ -27,7 +27,7 @@ fn added(x: i128, y: i128) -> Option<i128>
 pub fn plus(x: i128, y: i128) -> Option<i128>
     ensures value { MatchOption result (Leaves (x +ℤ y)) (λ sum. (sum ≡ x +ℤ y) × Stays (x +ℤ y)) }
     ensures step { result ≡ with_number x y }
-    ensures kept { IsKept y → result ≡ with_product x y }
+    ensures kept { IsWithin128 y → result ≡ with_product x y }
 {
     added(x, y)
 }

@@ -2,7 +2,7 @@ use Rattle.std.proofs.Common.{◌∙◌, sym, subst}
 use Rattle.core_dict.specs.Dictionary.{CostsNotNegative}
 use Rattle.core_dict.proofs.StartCosts.{start_costs}
 use Rattle.core_rules.specs.Candidates.{before}
-use Rattle.core_rules.specs.Kept.{rule_view}
+use Rattle.core_rules.specs.Rules.{rule_view}
 use Rattle.core_margin.proofs.Margins.{start_is, reached_at}
 use Rattle.core_bench.proofs.margin.time_128.Goals as goal
 

@@ -1,6 +1,6 @@
 use Rattle.core_dict.specs.Dictionary.{start}
 use Rattle.core_rules.specs.Candidates.{before}
-use Rattle.core_rules.specs.Kept.{rule_view}
+use Rattle.core_rules.specs.Rules.{rule_view}
 use Rattle.core_margin.proofs.Margins.{start_is, reached_at}
 use Rattle.core_bench.proofs.margin.time_64_first.Goals as goal
 

@@ -1,6 +1,6 @@
 use Rattle.std.proofs.Common.{sym, ◌∙◌, ap, subst, map}
 use Rattle.std.specs.List.{All}
-use Rattle.core_book.specs.Kept.{IsInstrument}
+use Rattle.core_book.specs.WellFormed.{IsInstrument}
 use Rattle.core_case.specs.Stated.{instrument_of_record}
 use Rattle.core_case.proofs.StateWhole.{instruments_short}
 use Rattle.core_case.proofs.state.book_instruments.Goals as goal

@@ -1,4 +1,4 @@
-use Rattle.core_book.specs.Kept.{IsInstrument}
+use Rattle.core_book.specs.WellFormed.{IsInstrument}
 use Rattle.core_case.specs.Stated.{instrument_of_record}
 use Rattle.core_case.proofs.StateRows.{stated_at}
 use Rattle.core_case.proofs.state.instruments.Goals as goal

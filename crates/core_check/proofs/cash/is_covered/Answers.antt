@@ -3,7 +3,7 @@ use mir.Syntax.{w128}
 use Rattle.std.proofs.lemmas.Int.{to_z-of_z}
 use Rattle.core_sums.specs.Sums.{total}
 use Rattle.core_model.specs.Check.{cash_terms}
-use Rattle.core_sums.proofs.Kept.{opposite-fits}
+use Rattle.core_sums.proofs.Within128.{opposite-fits}
 use Rattle.core_wide.proofs.Adding.{sum-total}
 use Rattle.core_check.proofs.Judging.{sum-stays, sum-leaves}
 use Rattle.core_check.proofs.CashTerms.{loss-most, cash-at}

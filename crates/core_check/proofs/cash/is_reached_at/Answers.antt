@@ -3,7 +3,7 @@ use mir.Syntax.{w128}
 use Rattle.std.proofs.lemmas.Int.{to_z-of_z}
 use Rattle.std.specs.Ordering.{int_eq}
 use Rattle.core_model.specs.Check.{cash_terms}
-use Rattle.core_sums.proofs.Kept.{opposite-fits}
+use Rattle.core_sums.proofs.Within128.{opposite-fits}
 use Rattle.core_wide.proofs.Adding.{sum-total, sum-there}
 use Rattle.core_check.proofs.CashTerms.{loss-same, cash-at}
 use Rattle.core_check.proofs.cash.is_reached_at.Goals as goal

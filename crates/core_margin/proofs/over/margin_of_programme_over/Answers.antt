@@ -2,7 +2,7 @@ use Rattle.std.proofs.Common.{◌≡◌, ◌+◌, ◌^◌, ◌≤◌, Err, ap, s
 use Rattle.std.proofs.lemmas.Result.{err_from_is_err_and}
 use Rattle.core_dict.specs.Dictionary.{start}
 use Rattle.core_rules.specs.Candidates.{before}
-use Rattle.core_rules.specs.Kept.{rule_view}
+use Rattle.core_rules.specs.Rules.{rule_view}
 use Rattle.core_run.specs.Ranked.{AreRanked, GoesByVariable}
 use Rattle.core_margin.specs.declared.fault.MarginFault.TheVariants as fault
 use Rattle.core_margin.specs.Answers.{fault_of_run}

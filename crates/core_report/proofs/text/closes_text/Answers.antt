@@ -1,11 +1,11 @@
 use Rattle.std.proofs.Common.{rules, ◌∙◌, ap, sym, subst, ◌++◌, ◌∷◌, [], List, codes}
 use Rattle.std.specs.Int.{w128}
 use Rattle.std.proofs.lemmas.Int.{to_z-of_z}
-use Rattle.core_sums.proofs.Kept.{kept-fits}
+use Rattle.core_sums.proofs.Within128.{kept-fits}
 use Rattle.core_rows.specs.Names.{Record}
 use Rattle.core_sums.specs.Places.{at}
 use Rattle.core_model.specs.Closing.{cash_of, worst_loss}
-use Rattle.core_model.specs.Fits.{IsKept}
+use Rattle.core_model.specs.Fits.{IsWithin128}
 use Rattle.core_model.specs.OfCase.{planned}
 use Rattle.core_replay.specs.Ledger.{paid_on}
 use Rattle.core_report.specs.Records.{close_records, ledger_records, limit_records, loss_records, pool_records, top_records}
@@ -20,9 +20,9 @@ put_loss-requires-clause-loss c =
     let a = planned c.args.accepted.now.calendar in
     let worst = c.args.worst in
     let is = c.requires.worst in
-    let kept = subst IsKept (is.place.worst ∙ sym is.loss)
+    let kept = subst IsWithin128 (is.place.worst ∙ sym is.loss)
     (loss-kept case a worst.scenario worst.day (is.stays worst.scenario is.place.scenario worst.day is.place.day)) in
-    subst IsKept (sym (to_z-of_z w128 worst.loss (kept-fits worst.loss kept))) kept
+    subst IsWithin128 (sym (to_z-of_z w128 worst.loss (kept-fits worst.loss kept))) kept
 
 pub put_ledger-requires-clause-kept : goal.put_ledger-requires-clause-kept
 put_ledger-requires-clause-kept c =

@@ -1,5 +1,5 @@
 use Rattle.core_rules.specs.Candidates.{before}
-use Rattle.core_rules.specs.Kept.{rule_view}
+use Rattle.core_rules.specs.Rules.{rule_view}
 use Rattle.core_run.specs.Kept.{HasKeptRow}
 use Rattle.core_run.proofs.leaving.leaving_row.Given as goal
 

@@ -1,7 +1,7 @@
 use Rattle.std.proofs.Common.{ap, arith, false, true}
 use Rattle.core_dict.specs.Dictionary.{Dictionary}
 use Rattle.core_rules.specs.Candidates.{before, Candidate}
-use Rattle.core_rules.specs.Kept.{rule_view}
+use Rattle.core_rules.specs.Rules.{rule_view}
 use Rattle.core_rules.specs.declared.cand.Cand.{Cand}
 use Rattle.core_run.proofs.KeptRows.{tested, row_is, row_passed, row_first, row_at, row_taken, row_stays}
 use Rattle.core_run.proofs.KeptRows.{var_ranked}

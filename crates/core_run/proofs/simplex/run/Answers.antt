@@ -1,7 +1,7 @@
 use Rattle.std.proofs.Common.{unsigned_abs, arith}
 use Rattle.core_dict.specs.Dictionary.{Dictionary}
 use Rattle.core_rules.specs.Candidates.{before}
-use Rattle.core_rules.specs.Kept.{rule_view}
+use Rattle.core_rules.specs.Rules.{rule_view}
 use Rattle.core_run.proofs.Answered.{run_start, run_goes_on, ranked_run, run_answered, has_spent}
 use Rattle.core_run.proofs.Served.{never_spent}
 use Rattle.core_run.proofs.simplex.run.Goals as goal

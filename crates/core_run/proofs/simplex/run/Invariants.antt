@@ -1,6 +1,6 @@
 use Rattle.std.proofs.Common.{unsigned_abs}
 use Rattle.core_rules.specs.Candidates.{before}
-use Rattle.core_rules.specs.Kept.{rule_view}
+use Rattle.core_rules.specs.Rules.{rule_view}
 use Rattle.core_run.specs.Steps.{HasRun}
 use Rattle.core_run.proofs.simplex.run.Given as goal
 

@@ -1,7 +1,7 @@
 use Rattle.std.proofs.Common.{ap, refl, sym, true≢false, unsigned_abs, Err}
 use Rattle.core_dict.specs.Dictionary.{Dictionary}
 use Rattle.core_rules.specs.Candidates.{before, Preference}
-use Rattle.core_rules.specs.Kept.{rule_view}
+use Rattle.core_rules.specs.Rules.{rule_view}
 use Rattle.core_run.specs.Run.{turn}
 use Rattle.core_run.proofs.Steps.{step_pivots, pivot_row, pivot_col, pivot_entry, pivots_whole, pivot_leaves}
 use Rattle.core_run.proofs.turn.make_turn.Goals as goal

@@ -1,6 +1,6 @@
 use Rattle.std.proofs.Common.{unsigned_abs, refl}
 use Rattle.core_rules.specs.Candidates.{before}
-use Rattle.core_rules.specs.Kept.{rule_view}
+use Rattle.core_rules.specs.Rules.{rule_view}
 use Rattle.core_run.proofs.Steps.{leaves_inside, leaving_ratio}
 use Rattle.core_run.proofs.turn.next_turn.Goals as goal
 

@@ -1,7 +1,7 @@
 use Rattle.std.proofs.Common.{◌^◌, ◌-◌, Err, IfSome}
 use Rattle.std.proofs.lemmas.Result.{err_from_is_err_and}
 use Rattle.core_rules.specs.Candidates.{before}
-use Rattle.core_rules.specs.Kept.{rule_view}
+use Rattle.core_rules.specs.Rules.{rule_view}
 use Rattle.core_run.specs.Answers.{outcome_of}
 use Rattle.core_run.specs.Widths.{ComesTo}
 use Rattle.core_run.proofs.WideAnswers.{answer_counted, fault_counted}

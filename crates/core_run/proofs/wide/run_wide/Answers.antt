@@ -1,7 +1,7 @@
 use Rattle.std.proofs.Common.{◌-◌, sym, subst}
 use Rattle.core_dict.specs.Dictionary.{CostsNotNegative, HasVariables, start}
 use Rattle.core_rules.specs.Candidates.{before}
-use Rattle.core_rules.specs.Kept.{rule_view}
+use Rattle.core_rules.specs.Rules.{rule_view}
 use Rattle.core_dict.proofs.StartCosts.{start_costs}
 use Rattle.core_run.proofs.WideAnswers.{costs_stand, ranks_stand, widened_ends, spent_wider, left_stands}
 use Rattle.core_run.proofs.WideAnswers.{not_spent}

@@ -1,7 +1,7 @@
 use Rattle.std.proofs.Common.{FitsSigned}
 use Rattle.std.specs.Int.{w128}
 use Rattle.std.proofs.lemmas.Int.{to_z-of_z}
-use Rattle.core_sums.proofs.Kept.{kept-fits}
+use Rattle.core_sums.proofs.Within128.{kept-fits}
 use Rattle.core_model.specs.declared.cert.Cert.TheVariants.{Closes}
 use Rattle.core_model.specs.Fits.{Fits}
 use Rattle.core_gen.specs.Closed.{demo_plan}
