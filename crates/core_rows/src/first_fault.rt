@@ -1,5 +1,5 @@
 // The fault where no record of a text is left.
-ghost use Rattle.std.specs.Prelude.{◌≡◌, ◌<◌, ◌^◌};
+ghost use Rattle.std.specs.Prelude.{◌≡◌, ◌<◌, ◌≤◌, ◌+◌, ◌^◌, IfSome};
 ghost use Rattle.core_rows.specs.FirstFault.{missing_after};
 
 /// What is missing after so many sound records, with its number, from 1: `not_begun` where there is none, and
@@ -11,7 +11,8 @@ pub fn missing_after<X: Copy>(
     not_ended: X,
 ) -> Option<(usize, X)>
     requires { count < 2 ^ 31 }
-    ensures { result ≡ missing_after count has_ended not_begun not_ended }
+    ensures missing { result ≡ missing_after count has_ended not_begun not_ended }
+    ensures number { IfSome result (λ faulty. faulty.0 ≤ count + 1) }
 {
     if count == 0 {
         Some((1, not_begun))
