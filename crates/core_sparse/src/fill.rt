@@ -1,5 +1,5 @@
 // The parts of a new tableau.
-ghost use Rattle.std.specs.Prelude.{◌≡◌, ℕ, ◌<◌, ◌≤◌, ◌+◌, suc, [], IfOk, length, get_or, ◌==◌, if◌then◌else◌};
+ghost use Rattle.std.specs.Prelude.{◌≡◌, ℕ, ◌<◌, suc, [], IfOk, ◌==◌, if◌then◌else◌};
 ghost use Rattle.fractions.specs.Fraction.{zero_q, one_q, whole};
 ghost use Rattle.core_dict.specs.Programme.{height, entry as programme_entry};
 ghost use Rattle.core_sparse.specs.Items.{number as number_of, IsWithin128};
@@ -78,19 +78,5 @@ pub fn costs<E: Exact>(alloc: Global, cols: usize) -> Result<Vec<Item<E>>, Alloc
 {
     let mut all = Vec::new(alloc);
     keep(&mut all, cols - 1, E::one())?;
-    Ok(all)
-}
-
-/// So many variables, numbered from a number on.
-pub fn variables(alloc: Global, first: u32, n: usize) -> Result<Vec<u32>, AllocError>
-    requires first_in { first ≤ 65536 }
-    requires few { n ≤ 65535 }
-    ensures width { IfOk result (λ v. length v.items ≡ n) }
-    ensures variables { IfOk result (λ v. (i : ℕ) → i < n → get_or v.items i 0 ≡ first + i) }
-{
-    let mut all = Vec::with_capacity(alloc, n)?;
-    for i in 0..n {
-        all.push(first + i as u32)?;
-    }
     Ok(all)
 }

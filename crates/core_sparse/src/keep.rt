@@ -3,8 +3,8 @@ ghost use Rattle.std.specs.Prelude.{◌≡◌, ◌≢◌, ℕ, ◌<◌, ◌≤�
 ghost use Rattle.core_sparse.specs.Items.{number as number_of, col_at, IsWithin128};
 ghost use Rattle.core_sparse.specs.declared.row.Item.{Item};
 
-use crate::numbers::is_zero;
 use crate::row::Item;
+use core_dict::is_zero;
 use exact_frac::Exact;
 use std::alloc::AllocError;
 

@@ -8,8 +8,8 @@ ghost use Rattle.core_sparse.specs.Steps.{entry_of, divided_value, AreDivided, I
 
 use crate::fault::Fault;
 use crate::keep::push;
-use crate::numbers::divided;
 use crate::row::{Item, Row};
+use core_dict::divided;
 use exact_frac::{Exact, Left};
 
 // An entry of the pivot's own row afterwards.

@@ -11,8 +11,8 @@ ghost use Rattle.core_sparse.specs.Steps.{IsMade, IsPut};
 use crate::fault::Fault;
 use crate::find::number;
 use crate::merge::merge;
-use crate::numbers::{divided, is_zero};
 use crate::row::{Item, Row, Slot};
+use core_dict::{divided, is_zero};
 use exact_frac::Exact;
 use std::mem;
 

@@ -1,4 +1,4 @@
--- What is kept of the columns after one more.
+-- The column so far, after one more column.
 use Rattle.std.proofs.Common.{◌≡◌, ◌≢◌, ap, ap₂, sym, refl, ◌∙◌, ℕ, zero, suc, ◌+◌, ◌<◌, ◌≤◌, ◌⊎◌, inl, inr, arith}
 use Rattle.std.proofs.Common.{Bool, true, false, Option, None, Some, subst}
 use Rattle.std.proofs.lemmas.Bool.{cases_eq, cases_lt}
@@ -9,8 +9,8 @@ use Rattle.core_dict.specs.Dictionary.{Dictionary}
 use Rattle.core_dict.specs.NextEntry.{AreZero}
 use Rattle.core_rules.specs.Candidates.{Candidate, lower_value}
 use Rattle.core_run.specs.Choice.{is_negative, column_candidate}
-use Rattle.core_run.specs.Kept.{IsPickedAt, HasKeptColumn, ColumnLeaves, column_of}
-use Rattle.core_run.specs.declared.entering.KeptColumn.{KeptColumn}
+use Rattle.core_run.specs.SoFar.{IsPickedAt, IsColumnSoFar, ColumnLeaves, column_of}
+use Rattle.core_run.specs.declared.entering.ColumnSoFar.{ColumnSoFar}
 use Rattle.core_run.proofs.Picks.{none_more, passed_over, first_picked, preferred, not_preferred}
 
 -- 0 is not negative
@@ -40,48 +40,48 @@ module _ {E : Type 0} (value : E → Fraction) (d : Dictionary) (r n : ℕ) wher
   passes j = is_negative (d.entry r j)
 
   -- a column whose entry is not negative changes nothing
-  pub column_passed : (kept : Option (KeptColumn E)) → is_negative (d.entry r n) ≡ false
-      → HasKeptColumn value d r n kept → HasKeptColumn value d r (n + 1) kept
+  pub column_passed : (so_far : Option (ColumnSoFar E)) → is_negative (d.entry r n) ≡ false
+      → IsColumnSoFar value d r n so_far → IsColumnSoFar value d r (n + 1) so_far
   column_passed None e h = none_more lower_value passes (column_candidate d r) n e h
   column_passed (Some k) e h =
       passed_over lower_value passes (column_candidate d r) n k.col (column_of value k) e h
 
-  -- the first one is kept
-  pub column_first : (kept : Option (KeptColumn E)) (x : KeptColumn E) → is_negative (d.entry r n) ≡ true
-      → column_of value x ≡ column_candidate d r n → HasKeptColumn value d r n kept → kept ≡ None
+  -- the first one is the one so far
+  pub column_first : (so_far : Option (ColumnSoFar E)) (x : ColumnSoFar E) → is_negative (d.entry r n) ≡ true
+      → column_of value x ≡ column_candidate d r n → IsColumnSoFar value d r n so_far → so_far ≡ None
       → IsPickedAt lower_value passes (column_candidate d r) (n + 1) n (column_of value x)
-  column_first kept x e is h f =
+  column_first so_far x e is h f =
       first_picked lower_value passes (column_candidate d r) n (column_of value x) e
-      (subst (HasKeptColumn value d r n) f h) is
+      (subst (IsColumnSoFar value d r n) f h) is
 
-  module _ (kept : Option (KeptColumn E)) (k x : KeptColumn E) (e : is_negative (d.entry r n) ≡ true)
-      (is : column_of value x ≡ column_candidate d r n) (h : HasKeptColumn value d r n kept)
-      (f : kept ≡ Some k) where
+  module _ (so_far : Option (ColumnSoFar E)) (k x : ColumnSoFar E) (e : is_negative (d.entry r n) ≡ true)
+      (is : column_of value x ≡ column_candidate d r n) (h : IsColumnSoFar value d r n so_far)
+      (f : so_far ≡ Some k) where
     -- it gives way to the next one, or stays
     pub column_taken : (b : Bool) → b ≡ lower_value (column_of value k) (column_of value x) → b ≡ true
         → IsPickedAt lower_value passes (column_candidate d r) (n + 1) n (column_of value x)
     column_taken b t s =
         preferred lower_value passes (column_candidate d r) n k.col (column_of value k) (column_of value x) e
-        (subst (HasKeptColumn value d r n) f h) is (sym t ∙ s)
+        (subst (IsColumnSoFar value d r n) f h) is (sym t ∙ s)
 
     pub column_stays : (b : Bool) → b ≡ lower_value (column_of value k) (column_of value x) → b ≡ false
         → IsPickedAt lower_value passes (column_candidate d r) (n + 1) k.col (column_of value k)
     column_stays b t s =
         not_preferred lower_value passes (column_candidate d r) n k.col (column_of value k)
-        (column_of value x) e (subst (HasKeptColumn value d r n) f h) is (sym t ∙ s)
+        (column_of value x) e (subst (IsColumnSoFar value d r n) f h) is (sym t ∙ s)
 
 -- columns whose entries are 0 change nothing
-pub columns_passed : {E : Type 0} (value : E → Fraction) (d : Dictionary) (r n m : ℕ) (kept : Option (KeptColumn E))
-    → n ≤ m → AreZero (d.entry r) n m → HasKeptColumn value d r n kept → HasKeptColumn value d r m kept
-columns_passed value d r n zero kept l z h = subst (λ (k : ℕ). HasKeptColumn value d r k kept) (omega arith) h
-columns_passed value d r n (suc m) kept l z h =
-    by (cases_eq n (suc m)) (λ o. columns_passed value d r n m kept o (λ j a b. z j a (omega arith)) h)
+pub columns_passed : {E : Type 0} (value : E → Fraction) (d : Dictionary) (r n m : ℕ) (so_far : Option (ColumnSoFar E))
+    → n ≤ m → AreZero (d.entry r) n m → IsColumnSoFar value d r n so_far → IsColumnSoFar value d r m so_far
+columns_passed value d r n zero so_far l z h = subst (λ (k : ℕ). IsColumnSoFar value d r k so_far) (omega arith) h
+columns_passed value d r n (suc m) so_far l z h =
+    by (cases_eq n (suc m)) (λ o. columns_passed value d r n m so_far o (λ j a b. z j a (omega arith)) h)
   where
-    by : (n ≡ suc m) ⊎ (n ≢ suc m) → (n ≤ m → HasKeptColumn value d r m kept)
-        → HasKeptColumn value d r (suc m) kept
-    by (inl e) rest = subst (λ (k : ℕ). HasKeptColumn value d r k kept) e h
-    by (inr ne) rest = subst (λ (k : ℕ). HasKeptColumn value d r k kept) (omega arith)
-        (column_passed value d r m kept (zero_passed (d.entry r m) (z m (omega arith) (omega arith)))
+    by : (n ≡ suc m) ⊎ (n ≢ suc m) → (n ≤ m → IsColumnSoFar value d r m so_far)
+        → IsColumnSoFar value d r (suc m) so_far
+    by (inl e) rest = subst (λ (k : ℕ). IsColumnSoFar value d r k so_far) e h
+    by (inr ne) rest = subst (λ (k : ℕ). IsColumnSoFar value d r k so_far) (omega arith)
+        (column_passed value d r m so_far (zero_passed (d.entry r m) (z m (omega arith) (omega arith)))
         (rest (omega arith)))
 
 -- and none of them leaves

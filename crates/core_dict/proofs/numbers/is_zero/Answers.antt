@@ -2,7 +2,7 @@ use Rattle.std.proofs.Common.{◌≡◌, pos, SFits, of_z, to_z, rules, sym, ap,
 use Rattle.std.proofs.lemmas.Int.{to_z-of_z}
 use Rattle.fractions.proofs.SignLaws.{signum_zero}
 use mir.Syntax.{w8}
-use Rattle.core_sparse.proofs.numbers.is_zero.Goals as goal
+use Rattle.core_dict.proofs.numbers.is_zero.Goals as goal
 
 pub returns : goal.returns
 returns g c =

@@ -1,7 +1,7 @@
 use Rattle.std.proofs.Common.{◌≡◌}
 use Rattle.fractions.specs.Fraction.{zero_q, inverse}
 use Rattle.core_dict.proofs.Reading.{zero_divided}
-use Rattle.core_dict.proofs.steps.divided.Goals as goal
+use Rattle.core_dict.proofs.numbers.divided.Goals as goal
 
 pub returns-then-is_zero-clause-exact : goal.returns-then-is_zero-clause-exact
 returns-then-is_zero-clause-exact g c =

@@ -1,7 +1,7 @@
 use Rattle.std.proofs.Common.{◌≡◌, ℕ, ◌+◌, ◌<◌, List, get_or, sym, subst, arith, refl, ◌∙◌}
 use Rattle.std.proofs.lemmas.List.{get_or_default}
 use Rattle.core_dict.proofs.Filling.{each_pushed}
-use Rattle.core_sparse.proofs.fill.variables.Goals as goal
+use Rattle.core_dict.proofs.numbers.variables_from.Goals as goal
 
 pub loop-i-preserved : goal.loop-i-preserved
 loop-i-preserved c = record {
