@@ -8,28 +8,28 @@ use std::marker::Model;
 
 /// By pay day the flows that are paid then, in the order in which they came.
 #[derive(Drop)]
-pub(crate) struct DueFlows {
+pub(crate) struct PayableFlows {
     by_day: Vec<Vec<i128>>,
 }
 
-impl Model for DueFlows {
+impl Model for PayableFlows {
     ghost use Rattle.std.specs.Prelude.{List, ℤ, map};
 
     ghost Value = { List (List ℤ) };
 
-    ghost view = { λ due. map (λ flows. flows.items) due.by_day.items };
+    ghost view = { λ payable. map (λ flows. flows.items) payable.by_day.items };
 }
 
-impl DueFlows {
+impl PayableFlows {
     /// No flow on any of so many days.
-    pub(crate) fn none(alloc: Global, days: usize) -> Result<DueFlows, AllocError>
-        ensures { IfOk result (λ due. due ≡ replicate days []) }
+    pub(crate) fn none(alloc: Global, days: usize) -> Result<PayableFlows, AllocError>
+        ensures { IfOk result (λ payable. payable ≡ replicate days []) }
     {
         let mut by_day = Vec::with_capacity(alloc, days)?;
         for _ in 0..days {
             by_day.push(Vec::new(alloc))?;
         }
-        Ok(DueFlows { by_day })
+        Ok(PayableFlows { by_day })
     }
 
     /// Puts a flow behind those of its pay day.

@@ -3,7 +3,7 @@ use mir.Syntax.{w128}
 use Rattle.std.proofs.lemmas.Int.{to_z-of_z}
 use Rattle.std.proofs.lemmas.List.{length-map}
 use Rattle.core_replay.proofs.Standing.{put-view}
-use Rattle.core_replay.proofs.due.DueFlows.put.Goals as goal
+use Rattle.core_replay.proofs.payable.PayableFlows.put.Goals as goal
 
 pub returns : goal.returns
 returns c =
