@@ -1,7 +1,6 @@
 -- The rows of the kept lists: how long they are, and that they are those of the view.
-use Rattle.std.proofs.Common.{◌≡◌, refl, sym, ◌∙◌, ◌⊎◌, inl, inr, ◌-◌, ◌∷◌, ◌++◌, ◌==◌, not, length-append, true, false, None, if◌then◌else◌, ap, subst, ℕ, suc, ◌<◌, ◌≤◌, Bool, List, [], length, map, fold, max, get_or, ℤ, arith, Vec, Global}
+use Rattle.std.proofs.Common.{◌≡◌, refl, sym, ◌∙◌, ◌⊎◌, inl, inr, ◌-◌, ◌∷◌, ◌++◌, length-append, true, false, None, if◌then◌else◌, ap, subst, ℕ, suc, ◌<◌, ◌≤◌, Bool, List, [], length, map, fold, max, get_or, ℤ, arith, Vec, Global}
 use Rattle.std.proofs.lemmas.List.{get_or-map, get_or_default, get_or_append_left, get_or-append_right, length-map}
-use Rattle.std.specs.List.{list_any}
 use Rattle.core_sums.specs.Places.{at, row_at}
 use Rattle.core_days.specs.Days.{is_open_on, pay_day}
 use Rattle.core_days.proofs.PayDays.{pay_day-cong}

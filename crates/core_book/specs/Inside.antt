@@ -1,5 +1,6 @@
 -- The view of a book, and what a case keeps beside it.
 use Rattle.std.specs.Prelude.{◌≡◌, ℕ, ℤ, Bool, List, ◌<◌, length, map}
+use Rattle.std.specs.Global.{Vec}
 use Rattle.jiff.specs.Words.{epoch_day}
 use Rattle.core_sums.specs.Places.{row_at}
 use Rattle.core_days.specs.Flags.{AreHouseDays, AreOpenFlags}
@@ -9,9 +10,12 @@ use Rattle.core_book.specs.declared.parts.Tier.{Tier}
 use Rattle.core_book.specs.declared.book.Book.{Book}
 use Rattle.core_book.specs.declared.case.Case.TheInside.{Inside}
 
--- the view of a tier, and of a book
+-- the view of a tier, of the tiers by instrument, and of a book
 abbrev pub tier_view : Tier → TierView
 tier_view x = record { cost = x.cost; limits = x.limits.items }
+
+abbrev pub depth_view : List (Vec Tier) → List (List TierView)
+depth_view depth = map (λ v. map tier_view v.items) depth
 
 abbrev pub book_view : Book → CaseView
 book_view a = record {
@@ -21,7 +25,7 @@ book_view a = record {
   holidays = map (λ v. map epoch_day v.items) a.holidays.items;
   instruments = a.instruments.items;
   markets = a.markets.items;
-  depth = map (λ v. map tier_view v.items) a.depth.items;
+  depth = depth_view a.depth.items;
   pools = a.pools.items;
   members = a.members.items;
   scenarios = a.scenarios.items;

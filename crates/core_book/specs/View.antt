@@ -1,7 +1,5 @@
 -- What a contract sees of a case: what the file states, by index from 0, and what follows for each day.
 use Rattle.std.specs.Prelude.{ℕ, ◌-◌, max, List, [], length, get_or, fold, ℤ, pos, Bool, not, ◌&&◌, ◌||◌, nat_le, nat_lt, ◌==◌, if◌then◌else◌, Option, None, is_some}
-use Rattle.std.specs.List.{list_any}
-use Rattle.std.specs.Ordering.{int_eq}
 use Rattle.core_sums.specs.Places.{at, row_at}
 use Rattle.core_days.specs.Days.{house_day, is_open_on, pay_day, open_day_before}
 use Rattle.core_book.specs.declared.parts.Kind.TheVariants.{Security}

@@ -72,6 +72,7 @@ fn open_days(
 impl Case {
     ghost use Rattle.std.specs.Prelude.{◌≡◌, ◌<◌, ◌≤◌, ℕ, suc, length};
     ghost use Rattle.core_days.specs.Flags.{flag_at};
+    ghost use Rattle.core_days.specs.Limits.{most_house_days};
     ghost use Rattle.core_book.specs.WellFormed.{IsCase};
     ghost use Rattle.core_sums.specs.Places.{row_at};
     ghost use Rattle.core_book.specs.View.{instrument, line, pool, member, tiers, tiers_of, cost, limit, price, cash, date, is_open, pays, counts, is_traded, is_allowed, instrument_of};
@@ -103,7 +104,7 @@ impl Case {
         self.book.horizon
     }
 
-    /// It keeps the ranges and references of a well-formed case. Nothing is computed: a proof is told it here.
+    /// It keeps the ranges and references of a well-formed case. Nothing is computed: a proof that needs it asks here.
     pub fn well_formed(&self)
         ensures { IsCase self.now }
     {
@@ -184,9 +185,10 @@ impl Case {
         }
     }
 
-    /// Whether an instrument's closings of a day count towards limits and pools: false exactly on its expiry.
+    /// Whether an instrument's closings of a day, from 1, count towards limits and pools: false exactly on its expiry.
     pub fn counts(&self, i: usize, u: u8) -> bool
-        requires { i < length self.now.instruments }
+        requires instrument { i < length self.now.instruments }
+        requires day { 1 ≤ u }
         ensures { result ≡ counts self.now i u }
     {
         u != self.book.instruments[i].expiry
@@ -198,7 +200,7 @@ impl Case {
         ensures count { length result.now.items ≡ suc self.now.last }
         ensures each { (t : ℕ) → t ≤ self.now.last
             → flag_at result.now.items t ≡ is_open self.now i t }
-        ensures bound { self.now.last ≤ 40 }
+        ensures bound { self.now.last ≤ most_house_days }
     {
         &self.open_days[self.book.markets[i]]
     }

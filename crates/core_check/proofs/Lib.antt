@@ -9,6 +9,7 @@ mod Passing
 mod PassingLists
 pub mod Totals
 mod Holding
+mod Tested
 mod Valid
 pub mod Showing
 mod Verdicts
@@ -25,3 +26,5 @@ mod BoundTerms
 mod WeightSigns
 mod Reaching
 mod Joining
+mod Formed
+mod Keeping

@@ -1,9 +1,10 @@
 -- From a test of every item of a list to the fact for each index.
-use Rattle.std.proofs.Common.{◌≡◌, refl, sym, ◌∙◌, ap, ℕ, zero, suc, ◌-◌, ◌<◌, ◌≤◌, ◌⊎◌, inl, inr, arith, Bool, true, false, ◌&&◌, ◌||◌, List, [], ◌∷◌, ◌++◌, map}
-use Rattle.std.proofs.lemmas.Bool.{and_parts, cases_lt, or_cases}
+use Rattle.std.proofs.Common.{◌≡◌, refl, sym, ◌∙◌, ap, ℕ, zero, suc, ◌-◌, ◌<◌, ◌≤◌, ◌⊎◌, inl, inr, arith, Bool, true, false, not, ◌&&◌, ◌||◌, List, [], ◌∷◌, ◌++◌, map}
+use Rattle.std.proofs.lemmas.Bool.{and_from, and_parts, cases_lt, or_cases}
 use Rattle.std.proofs.lemmas.List.Folds.{list_all-append, list_all-map, list_any-append}
 use Rattle.std.specs.List.{list_all, list_any}
 use Rattle.core_sums.specs.Places.{below, days_to, each}
+use Rattle.core_sums.specs.Widths.{any_leaves}
 use Rattle.core_sums.proofs.Lists.{days_to-below}
 use Rattle.core_model.specs.declared.condition.Condition.{Condition}
 use Rattle.core_model.specs.Check.{Test, Place, places_of, pairs}
@@ -123,19 +124,25 @@ any-by_index n m f p e =
     let inner = any-below m (λ v. p (f outer.0 v)) outer.2 in
     (outer.0, inner.0, outer.1, inner.1, inner.2)
 
--- whether a test and a place hold
+-- whether a test holds, and whether no number of it leaves
 abbrev pub holds : Test → Bool
 holds x = x.holds
 
-abbrev pub place_holds : Place → Bool
-place_holds x = x.test.holds
+abbrev pub stays : Test → Bool
+stays x = not (any_leaves x.numbers)
 
--- the places of a condition hold just where its tests do
-pub places-hold : (condition : Condition) (first : ℕ) (xs : List Test) → list_all place_holds (places_of condition first xs) ≡ true → list_all holds xs ≡ true
+-- the same of a place
+abbrev pub place_holds : Place → Bool
+place_holds x = holds x.test
+
+abbrev pub place_stays : Place → Bool
+place_stays x = stays x.test
+
+-- what is so of the places of a condition is so of its tests
+pub places-tested : (p : Test → Bool) (condition : Condition) (first : ℕ) (xs : List Test) → list_all (λ x. p x.test) (places_of condition first xs) ≡ true
+    → list_all p xs ≡ true
 unfolding places_of
-places-hold condition first [] e = refl
-places-hold condition first (x ∷ xs) e = both (holds x) (list_all place_holds (places_of condition (suc first) xs)) (list_all holds xs) e (places-hold condition (suc first) xs)
-  where
-    both : (a b d : Bool) → (a && b) ≡ true → (b ≡ true → d ≡ true) → (a && d) ≡ true
-    both true b d held rest = rest held
-    both false b d held rest = held
+places-tested p condition first [] e = refl
+places-tested p condition first (x ∷ xs) e =
+    let parts = and_parts (p x) (list_all (λ y. p y.test) (places_of condition (suc first) xs)) e in
+    and_from (p x) (list_all p xs) parts.0 (places-tested p condition (suc first) xs parts.1)

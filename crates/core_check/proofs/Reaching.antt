@@ -1,22 +1,20 @@
 -- Losses at one place after the other: whether one of them is the calendar's, where none of their numbers leaves.
-use Rattle.std.proofs.Common.{◌≡◌, refl, sym, ◌∙◌, ap, ℕ, suc, ◌+◌, ◌<◌, arith, ℤ, neg_ℤ, Bool, true, false, not, ◌&&◌, ◌||◌, List, [], ◌∷◌, length, map}
+use Rattle.std.proofs.Common.{◌≡◌, refl, sym, ◌∙◌, ap, ℕ, suc, ◌+◌, ◌<◌, arith, ℤ, neg_ℤ, Bool, true, false, ◌||◌, List, [], ◌∷◌, length, map}
 use Rattle.std.proofs.lemmas.Bool.{not-true}
 use Rattle.std.proofs.lemmas.List.{length-map, map-append}
 use Rattle.std.proofs.lemmas.List.Folds.{list_any-append, list_any_at}
 use Rattle.std.specs.Ordering.{int_eq}
-use Rattle.std.specs.List.{list_all, list_any}
+use Rattle.std.specs.List.{list_any}
 use Rattle.core_sums.specs.Sums.{total}
 use Rattle.core_sums.specs.Places.{below}
 use Rattle.core_sums.specs.Widths.{any_leaves}
 use Rattle.core_sums.proofs.Lists.{length-below, get_or-below}
 use Rattle.core_book.specs.View.{CaseView}
 use Rattle.core_model.specs.Closing.{Plan}
-use Rattle.core_model.specs.declared.condition.Condition.{Condition}
-use Rattle.core_model.specs.Conditions.{number_of}
-use Rattle.core_model.specs.Check.{Test, places_of, cash_terms, loss_test, reached_test, by_scenario_and_day, Passed, Failed, Wide, verdict_of}
+use Rattle.core_model.specs.Check.{Test, places_of, cash_terms, loss_test, reached_test, by_scenario_and_day, Passed, verdict_of}
 use Rattle.core_check.specs.Steps.{LossesStay}
-use Rattle.core_check.proofs.Order.{verdict-first}
-use Rattle.core_check.proofs.Passing.{all-by_index}
+use Rattle.core_check.proofs.Verdicts.{passed-all}
+use Rattle.core_check.proofs.Passing.{all-by_index, places-tested, stays}
 use Rattle.core_check.proofs.Tables.{scenarios-by_place}
 use Rattle.core_model.specs.Layout.{house_day_at_place, scenario_at_place, scenario_count}
 use Rattle.core_model.specs.declared.condition.Condition.TheVariants.{Losses}
@@ -56,23 +54,9 @@ reached_before c a loss n = list_any (λ terms. int_eq (neg_ℤ (total terms)) l
 pub reached-places : (c : CaseView) (a : Plan) (loss : ℤ) → reached_before c a loss (scenario_count c) ≡ (reached_test c a loss).holds
 reached-places c a loss = ap (list_any (λ terms. int_eq (neg_ℤ (total terms)) loss)) (sym (scenarios-by_place c (cash_terms c a)))
 
--- ---- places that pass
-
--- no number of a test leaves
-abbrev pub stays : Test → Bool
-stays x = not (any_leaves x.numbers)
-
--- where no place stops the check, no number leaves
-passed-stay : (condition : Condition) (first : ℕ) (xs : List Test) → verdict_of (places_of condition first xs) ≡ Passed → list_all stays xs ≡ true
-unfolding places_of verdict_of
-passed-stay condition first [] e = refl
-passed-stay condition first (x ∷ xs) e =
-    let here =
-    verdict-first (any_leaves x.numbers) x.holds (Wide (number_of condition) first) (Failed (number_of condition) first) (verdict_of (places_of condition (suc first) xs)) e (λ clash. cc) (λ clash. cc) in
-    ap (λ b. not b && list_all stays xs) here.0 ∙ passed-stay condition (suc first) xs here.2
-
 -- Where each loss is at most the calendar's, no number of any of them leaves.
 pub covered-stay : (c : CaseView) (a : Plan) (loss : ℤ) → verdict_of (places_of Losses 1 (by_scenario_and_day c (loss_test c a loss))) ≡ Passed → LossesStay c a loss
 covered-stay c a loss e k t scenario day =
-    not-true (any_leaves (loss_test c a loss k t).numbers)
-    (all-by_index (length c.scenarios) (suc c.last) (loss_test c a loss) stays (passed-stay Losses 1 (by_scenario_and_day c (loss_test c a loss)) e) k t scenario (omega (arith, day)))
+    let tests : List Test = by_scenario_and_day c (loss_test c a loss) in
+    let all = places-tested stays Losses 1 tests (passed-all (places_of Losses 1 tests) e).stay in
+    not-true (any_leaves (loss_test c a loss k t).numbers) (all-by_index (length c.scenarios) (suc c.last) (loss_test c a loss) stays all k t scenario (omega (arith, day)))

@@ -1,22 +1,24 @@
--- A certificate that the check passes is valid.
-use Rattle.std.proofs.Common.{◌≡◌, refl, ◌∙◌, ap, true, ◌&&◌, List, [], ◌∷◌}
+-- A certificate that the check passes is valid, and no number of it leaves.
+use Rattle.std.proofs.Common.{◌≡◌, refl, ◌∙◌, ap, true, not, ◌&&◌, List, [], ◌∷◌}
 use Rattle.std.specs.List.{list_all}
 use Rattle.core_sums.specs.Widths.{any_leaves}
-use Rattle.core_book.specs.View.{CaseView}
-use Rattle.core_model.specs.declared.cert.Cert.{Cert}
-use Rattle.core_model.specs.Check.{Place, places, IsValid, Passed, Failed, Wide, verdict_of, verdict}
+use Rattle.core_model.specs.Check.{Place, Passed, Failed, Wide, verdict_of}
 use Rattle.core_check.proofs.Order.{verdict-first}
-use Rattle.core_check.proofs.Passing.{place_holds}
+use Rattle.core_check.proofs.Passing.{place_holds, place_stays}
 
--- where no place stops the check, each holds
-passed-hold : (xs : List Place) → verdict_of xs ≡ Passed → list_all place_holds xs ≡ true
+-- where no place stops the check, no number of any leaves and each holds
+pub record AllPass (xs : List Place) : Type 0 where
+  pub stay : list_all place_stays xs ≡ true
+  pub hold : list_all place_holds xs ≡ true
+
+pub passed-all : (xs : List Place) → verdict_of xs ≡ Passed → AllPass xs
 unfolding verdict_of
-passed-hold [] e = refl
-passed-hold (x ∷ xs) e =
+passed-all [] e = record { stay = refl; hold = refl }
+passed-all (x ∷ xs) e =
     let here =
     verdict-first (any_leaves x.test.numbers) x.test.holds (Wide x.condition x.place) (Failed x.condition x.place) (verdict_of xs) e (λ clash. cc) (λ clash. cc) in
-    ap (λ b. b && list_all place_holds xs) here.1 ∙ passed-hold xs here.2
-
--- a certificate that passes is valid
-pub passed-is-valid : (c : CaseView) (cert : Cert) → verdict c cert ≡ Passed → IsValid c cert
-passed-is-valid c cert e = passed-hold (places c cert) e
+    let rest = passed-all xs here.2 in
+    record {
+      stay = ap (λ b. not b && list_all place_stays xs) here.0 ∙ rest.stay;
+      hold = ap (λ b. b && list_all place_holds xs) here.1 ∙ rest.hold;
+    }

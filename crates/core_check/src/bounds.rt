@@ -80,7 +80,7 @@ fn minus_cap(weights: &CaseWeights, sum: i128, place: usize) -> Option<i128>
 }
 
 /// The bound of the weights, as a numerator over their denominator, or None where a number leaves.
-fn bound(weights: &WeightsAndFlows) -> Option<i128>
+pub(crate) fn bound(weights: &WeightsAndFlows) -> Option<i128>
     ensures { result ≡ summed (pos 0)
         (bound_terms weights.now.of_case.case weights.now.of_case.weights)
         (bound_terms weights.now.of_case.case weights.now.of_case.weights) }

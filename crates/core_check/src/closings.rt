@@ -146,7 +146,7 @@ fn plus_line(calendar: &CaseCalendar, cell: ClosingCell, sum: i128, l: usize) ->
 }
 
 /// What is closed of an instrument on a day in a tier, over its lines, or None where a sum leaves.
-fn tier_closed(calendar: &CaseCalendar, cell: ClosingCell) -> Option<i128>
+pub(crate) fn tier_closed(calendar: &CaseCalendar, cell: ClosingCell) -> Option<i128>
     requires day { IsClosingDay calendar.now.case cell.day }
     requires tier { IsTierNumber calendar.now.case cell.tier }
     ensures { result ≡ summed (pos 0) [] (tier_closings calendar.now.case (planned calendar.now)
@@ -255,7 +255,7 @@ fn plus_member(calendar: &CaseCalendar, p: usize, u: u8, sum: i128, m: usize) ->
 }
 
 /// The weighted closings of a pool's members on a day, or None where a number leaves.
-fn pool_closed(calendar: &CaseCalendar, p: usize, u: u8) -> Option<i128>
+pub(crate) fn pool_closed(calendar: &CaseCalendar, p: usize, u: u8) -> Option<i128>
     requires day { IsClosingDay calendar.now.case u }
     ensures { result ≡ summed (pos 0)
         (pool_numbers calendar.now.case (planned calendar.now) p u)

@@ -5,12 +5,16 @@
 //! duality, and that refusing weights leave no calendar is one direction of Farkas' lemma (Farkas 1902).
 #![tactic(auto)]
 
+mod accepted;
+mod accepted_calendar;
+mod accepted_weights;
 mod bounds;
 mod cash;
 mod charges;
 mod closings;
 mod conditions;
 mod fault;
+mod form;
 mod numbers;
 mod places;
 mod ratios;
@@ -24,11 +28,13 @@ ghost use Rattle.core_model.specs.Check.{verdict, Passed};
 ghost use Rattle.core_check.specs.Answers.{Refuses};
 ghost use Rattle.core_check.specs.Laws.{MetBoundShowsLeast, RefusingShowsNone, ShowingIsValid, ValidShows};
 
-use conditions::check_cert;
+pub use accepted::{Accepted, accept};
+pub use accepted_calendar::AcceptedCalendar;
+pub use accepted_weights::AcceptedWeights;
 use core_book::Case;
-use core_flows::Flows;
 use core_model::Cert;
 pub use fault::CheckFault;
+pub use form::Form;
 use std::alloc::Global;
 
 /// Judges a certificate of a case: Ok says that it shows what it states.
@@ -53,10 +59,8 @@ pub fn check(alloc: Global, case: &Case, cert: &Cert) -> Result<(), CheckFault>
     ensures refused { IfErr result (Refuses (verdict case.now cert.now)) }
     ensures shows { OnOk result (Shows case.now cert.now) }
 {
-    // What every case keeps, its conditions stand on.
-    let _kept = case.horizon();
-    let flows = Flows::make(alloc, case)?;
-    check_cert(&flows, cert)
+    accept(alloc, case, cert)?;
+    Ok(())
 }
 
 /// The law of bounding weights: an admissible calendar whose worst loss meets their bound is least.

@@ -2,6 +2,7 @@ ghost use Rattle.std.specs.Prelude.{◌≡◌, ◌≤◌, ◌+ℤ◌, ◌<ℤ◌
 ghost use Rattle.jiff.specs.Words.{epoch_day};
 ghost use Rattle.core_sums.specs.Places.{has};
 ghost use Rattle.core_days.specs.Days.{weekday, is_open_on, is_working as is_working_on};
+ghost use Rattle.core_days.specs.Limits.{most_holidays, most_house_days};
 ghost use Rattle.core_days.specs.Flags.{IsStart, AreHouseDays, AreOpenFlags};
 
 use jiff::civil::Date;
@@ -18,8 +19,8 @@ pub fn house_days(
     last: u8,
 ) -> Result<Vec<Date>, AllocError>
     requires start { IsStart (epoch_day start) }
-    requires few { length holidays.now ≤ 400 }
-    requires last { last ≤ 40 }
+    requires few { length holidays.now ≤ most_holidays }
+    requires last { last ≤ most_house_days }
     ensures { IfOk result (λ days. AreHouseDays (epoch_day start) (map epoch_day holidays.now) last
         (map epoch_day days.items)) }
 {

@@ -1,6 +1,7 @@
-ghost use Rattle.std.specs.Prelude.{◌≡◌, ◌-◌, ◌<◌, ◌≤◌, length, IsTrue};
+ghost use Rattle.std.specs.Prelude.{◌≡◌, ◌-◌, ◌<◌, ◌≤◌, suc, length, IsTrue};
 ghost use Rattle.core_days.specs.Days.{pay_day as pay_day_of};
 ghost use Rattle.core_days.specs.Flags.{flag_at};
+ghost use Rattle.core_days.specs.Limits.{most_house_days};
 
 /// The house day on which a flow of the open day `v` is paid, `lag` open days of its market later.
 ///
@@ -9,7 +10,7 @@ ghost use Rattle.core_days.specs.Flags.{flag_at};
 pub fn pay_day(flags: &[bool], v: u8, lag: u8) -> Option<u8>
     requires in_range { v < length flags.now }
     requires from_open { IsTrue (flag_at flags.now v) }
-    requires few { length flags.now ≤ 41 }
+    requires few { length flags.now ≤ suc most_house_days }
     ensures { result ≡ pay_day_of (flag_at flags.now) (length flags.now - 1) lag v }
 {
     let mut left = lag;

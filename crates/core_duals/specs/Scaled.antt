@@ -8,4 +8,4 @@ use Rattle.core_duals.specs.declared.scaled.Scaled.{Scaled}
 -- the numerators of a list over its least common denominator, and that denominator
 pub record IsOverCommon (qs : List Fraction) (s : Scaled) : Type 0 where
   pub den : s.den ≡ pos (common_den qs)
-  pub numbers : s.numbers.items ≡ over_common qs
+  pub nums : s.nums ≡ over_common qs

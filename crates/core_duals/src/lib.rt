@@ -9,6 +9,7 @@ ghost use Rattle.core_duals.specs.Laws.{ListsAreOverCommon};
 mod lists;
 mod scaled;
 
+pub use core_wide::Numbers;
 pub use lists::{duals, farkas, primal};
 pub use scaled::{DualFault, Scaled};
 

@@ -4,6 +4,7 @@ ghost use Rattle.exact_frac.specs.Value128.{value128};
 ghost use Rattle.core_duals.specs.Lists.{CommonLeaves};
 ghost use Rattle.core_duals.specs.Scaled.{IsOverCommon};
 
+use core_wide::Numbers;
 use exact_frac::{Frac128, Left, common_den, scaled};
 use std::alloc::{AllocError, Global};
 
@@ -13,7 +14,7 @@ pub struct Scaled {
     /// The least common denominator, so at least 1.
     pub den: i128,
     /// The numerators over it, in the list's order.
-    pub numbers: Vec<i128>,
+    pub nums: Numbers,
 }
 
 /// Why a list is not put over one denominator.
@@ -55,9 +56,9 @@ pub(crate) fn over_common(alloc: Global, list: &[Frac128]) -> Result<Scaled, Dua
         → CommonLeaves (2 ^ 127 - 1) (map value128 list.now) }
 {
     let den = common_den(list)?;
-    let mut numbers = vec![in alloc; 0i128; list.len()]?;
+    let mut nums = Numbers::zeros(alloc, list.len())?;
     for i in 0..list.len() {
-        numbers[i] = scaled(list[i], den)?;
+        nums.set(i, scaled(list[i], den)?);
     }
-    Ok(Scaled { den, numbers })
+    Ok(Scaled { den, nums })
 }

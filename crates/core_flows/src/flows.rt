@@ -1,9 +1,10 @@
 // The flows of a case.
-ghost use Rattle.std.specs.Prelude.{◌≡◌, ◌+◌, ◌*◌, ◌^◌, ◌<◌, ◌≤◌, suc, length, true, unsigned_abs, IfOk};
+ghost use Rattle.std.specs.Prelude.{◌≡◌, ◌<◌, ◌≤◌, suc, length, true, unsigned_abs, IfOk};
 ghost use Rattle.core_book.specs.WellFormed.{IsCase};
 ghost use Rattle.core_book.specs.View.{is_allowed};
 ghost use Rattle.core_model.specs.Closing.{fixed};
 ghost use Rattle.core_model.specs.Bounds.{unit};
+ghost use Rattle.core_flows.specs.Limits.{most_unit};
 ghost use Rattle.core_flows.specs.Tables.{IsTable};
 
 use crate::tables::{PayTable, pay_tables};
@@ -84,7 +85,7 @@ impl<'a> Flows<'a> {
         requires closed { is_allowed self.now line closed tier ≡ true }
         requires day { day ≤ self.now.last }
         ensures value { result ≡ unit self.now line scenario closed tier day }
-        ensures small { unsigned_abs result ≤ 2 * 10 ^ 18 + 10 ^ 12 }
+        ensures small { unsigned_abs result ≤ most_unit }
     {
         let case = self.case;
         let pay_table = &self.pay_tables[case.line(line).instrument];

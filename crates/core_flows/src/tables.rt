@@ -1,6 +1,7 @@
 // When the flows of an instrument are paid, by house day.
 ghost use Rattle.std.specs.Prelude.{◌≡◌, ◌<◌, ◌≤◌, suc, length, get_or, None, if◌then◌else◌, IfOk};
 ghost use Rattle.core_days.specs.Days.{open_day_before};
+ghost use Rattle.core_book.specs.Limits.{most_house_days};
 ghost use Rattle.core_book.specs.View.{pays};
 ghost use Rattle.core_book.specs.WellFormed.{IsCase};
 ghost use Rattle.core_model.specs.Closing.{is_by};
@@ -69,7 +70,7 @@ fn pay_days(alloc: Global, case: &Case, i: usize) -> Result<Vec<Option<u8>>, All
 
 /// The last day that is paid by a house day, 0 where there is none.
 fn last_paid(pay_days: &[Option<u8>], day: u8) -> u8
-    requires { length pay_days.now ≤ 41 }
+    requires { length pay_days.now ≤ suc most_house_days }
     ensures { result ≡ open_day_before (λ v. is_by (get_or pay_days.now v None) day)
         (length pay_days.now) }
 {
@@ -84,7 +85,7 @@ fn last_paid(pay_days: &[Option<u8>], day: u8) -> u8
 
 /// The last days that are paid, by house day.
 fn last_paid_days(alloc: Global, pay_days: &[Option<u8>]) -> Result<Vec<u8>, AllocError>
-    requires { length pay_days.now ≤ 41 }
+    requires { length pay_days.now ≤ suc most_house_days }
     ensures { IfOk result (λ days. IsTable (length pay_days.now)
         (λ t v. v ≡ open_day_before (λ w. is_by (get_or pay_days.now w None) t)
         (length pay_days.now)) days.items) }

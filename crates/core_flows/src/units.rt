@@ -1,9 +1,10 @@
 // What one unit of a line pays, by the pay days of its instrument.
-ghost use Rattle.std.specs.Prelude.{◌≡◌, ◌+◌, ◌*◌, ◌^◌, ◌<◌, ◌≤◌, ◌-ℤ◌, ◌*ℤ◌, length, true, unsigned_abs};
+ghost use Rattle.std.specs.Prelude.{◌≡◌, ◌<◌, ◌≤◌, ◌-ℤ◌, ◌*ℤ◌, length, true, unsigned_abs};
 ghost use Rattle.core_book.specs.WellFormed.{IsCase};
 ghost use Rattle.core_book.specs.View.{instrument_of, price, is_allowed};
 ghost use Rattle.core_model.specs.Closing.{kind_of, size};
 ghost use Rattle.core_model.specs.Bounds.{unit};
+ghost use Rattle.core_flows.specs.Limits.{most_marks, most_sale, most_unit, most_unit_cost};
 ghost use Rattle.core_flows.specs.Tables.{IsPayTable};
 ghost use Rattle.core_flows.specs.Units.{unit_by, unit_cost};
 
@@ -47,7 +48,7 @@ fn marks(case: &Case, line: usize, scenario: usize, last: u8) -> i128
     ensures value { result ≡ size case.now line
         *ℤ (price case.now scenario (instrument_of case.now line) last
         -ℤ price case.now scenario (instrument_of case.now line) 0) }
-    ensures small { unsigned_abs result ≤ 2 * 10 ^ 18 }
+    ensures small { unsigned_abs result ≤ most_marks }
 {
     product(
         size(case, line),
@@ -63,7 +64,7 @@ fn sale(case: &Case, line: usize, scenario: usize, day: u8) -> i128
     requires day { day ≤ case.now.last }
     ensures value { result ≡ size case.now line
         *ℤ price case.now scenario (instrument_of case.now line) day }
-    ensures small { unsigned_abs result ≤ 10 ^ 18 }
+    ensures small { unsigned_abs result ≤ most_sale }
 {
     product(
         size(case, line),
@@ -88,7 +89,7 @@ fn before_cost(
     requires closed { closed ≤ case.now.last }
     requires day { day ≤ case.now.last }
     ensures value { result ≡ unit_by (kind_of case.now line) case.now line scenario closed day }
-    ensures small { unsigned_abs result ≤ 2 * 10 ^ 18 }
+    ensures small { unsigned_abs result ≤ most_marks }
 {
     match case.instrument(case.line(line).instrument).kind {
         Kind::Future => marks(case, line, scenario, pay_table.marked_to(closed, day)),
@@ -110,7 +111,7 @@ fn unit_cost(case: &Case, pay_table: &PayTable, line: usize, closed: u8, tier: u
     requires closed { closed ≤ case.now.last }
     requires tier { 1 ≤ tier }
     ensures value { result ≡ unit_cost case.now line closed tier day }
-    ensures small { unsigned_abs result ≤ 10 ^ 12 }
+    ensures small { unsigned_abs result ≤ most_unit_cost }
 {
     let is_paid = pay_table.is_paid_by(closed, day);
     if is_paid {
@@ -138,7 +139,7 @@ pub(crate) fn unit(
     requires closed { is_allowed case.now line closed tier ≡ true }
     requires day { day ≤ case.now.last }
     ensures value { result ≡ unit case.now line scenario closed tier day }
-    ensures small { unsigned_abs result ≤ 2 * 10 ^ 18 + 10 ^ 12 }
+    ensures small { unsigned_abs result ≤ most_unit }
 {
     let paid = before_cost(case, pay_table, line, scenario, closed, day);
     paid - i128::from(unit_cost(case, pay_table, line, closed, tier, day))

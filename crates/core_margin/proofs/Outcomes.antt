@@ -1,18 +1,18 @@
--- A case comes to exactly one thing.
-use Rattle.std.proofs.Common.{◌≡◌, ℕ, inl, inr, refl, sym, ◌∙◌, ap, subst₂}
+-- The run from a dictionary comes to exactly one thing.
+use Rattle.std.proofs.Common.{◌≡◌, ℕ, inl, inr, refl, sym, ◌∙◌, ap, subst, subst₂}
 use Rattle.core_sums.specs.Widths.{most}
 use Rattle.core_book.specs.View.{CaseView}
 use Rattle.core_model.specs.declared.cert.Cert.{Cert}
 use Rattle.core_dict.specs.Dictionary.{Dictionary}
 use Rattle.core_rules.specs.Candidates.{Preference}
-use Rattle.core_run.specs.Run.{Turn, Best, NoSolution, PivotOn, Pivots}
+use Rattle.core_run.specs.Run.{Turn, Best, NoSolution, PivotOn, Pivots, run}
 use Rattle.core_run.specs.Widths.{Outcome, Ended, TooWide, ComesTo}
-use Rattle.core_run.specs.Widths as run
+use Rattle.core_run.specs.Widths as outcome
 use Rattle.core_run.specs.Laws.{SomeOutcome, OneOutcome}
 use Rattle.core_lp.specs.Placing.{closes_cert, cannot_cert}
-use Rattle.core_margin.specs.Last.{start_of, dictionary_after, IsCertOf, CertLeaves}
+use Rattle.core_margin.specs.Last.{IsCertOf, CertLeaves}
 use Rattle.core_margin.specs.Outcomes.{MarginOutcome, Certificate, Common, Pivot, Spent}
-use Rattle.core_margin.specs.Outcomes.{MarginComesTo}
+use Rattle.core_margin.specs.Outcomes.{LeadsTo}
 use Rattle.core_margin.specs.Laws.{SomeMargin, OneMargin}
 use Rattle.core_margin.proofs.Deciding.{IsOrNot, cert_leaves}
 
@@ -24,23 +24,29 @@ cert_of_end c e Best n = (closes_cert c e, refl)
 cert_of_end c e (NoSolution r) n = (cannot_cert c e r, refl)
 cert_of_end c e (PivotOn r s) n = absurd (n tt)
 
-module _ (c : CaseView) (better : Preference) (budget : ℕ) where
-  something : (o : Outcome) → ComesTo most better (start_of c) budget o
-      → (q : MarginOutcome) × MarginComesTo c better budget q
-  something (Ended k t) h = by (cert_leaves most c (dictionary_after c better k) t)
+module _ (c : CaseView) (better : Preference) (budget : ℕ) (d : Dictionary) where
+  something : (o : Outcome) → ComesTo most better d budget o
+      → (q : MarginOutcome) × LeadsTo c better budget d q
+  something (Ended k t) h = by (cert_leaves most c (run better d k) t)
     where
-      by : IsOrNot (CertLeaves most c (dictionary_after c better k) t)
-          → (q : MarginOutcome) × MarginComesTo c better budget q
+      by : IsOrNot (CertLeaves most c (run better d k) t)
+          → (q : MarginOutcome) × LeadsTo c better budget d q
       by (inl leaves) = (Common, record { pivots = k; turn = t; ended = h; leaves = leaves })
       by (inr fits) =
-          let f = cert_of_end c (dictionary_after c better k) t h.1.ends in
-          (Certificate f.0, record { pivots = k; turn = t; ended = h; fits = fits; is = f.1 })
+          let f = cert_of_end c (run better d k) t h.1.ends in
+          (
+            Certificate f.0,
+            (
+              run better d k,
+              record { pivots = k; turn = t; ended = h; last = refl; fits = fits; is = f.1 },
+            ),
+          )
   something (TooWide k) h = (Pivot k, h)
-  something run.Spent h = (Spent, h)
+  something outcome.Spent h = (Spent, h)
 
 pub some_margin : SomeOutcome → SomeMargin
-some_margin law c better budget =
-    let h = law most better (start_of c) budget in something c better budget h.0 h.1
+some_margin law c better budget d =
+    let h = law most better d budget in something c better budget d h.0 h.1
 
 -- ---- one thing
 -- an end has one certificate
@@ -50,26 +56,26 @@ one_cert c e Best x y h f = h ∙ sym f
 one_cert c e (NoSolution r) x y h f = h ∙ sym f
 one_cert c e (PivotOn r s) x y h f = absurd h
 
-module _ (c : CaseView) (better : Preference) (budget : ℕ) where
+module _ (c : CaseView) (better : Preference) (budget : ℕ) (d : Dictionary) where
   -- what the run came to
-  run_outcome : (o : MarginOutcome) → MarginComesTo c better budget o → Outcome
-  run_outcome (Certificate cert) h = Ended h.pivots h.turn
+  run_outcome : (o : MarginOutcome) → LeadsTo c better budget d o → Outcome
+  run_outcome (Certificate cert) (e, h) = Ended h.pivots h.turn
   run_outcome Common h = Ended h.pivots h.turn
   run_outcome (Pivot k) h = TooWide k
-  run_outcome Spent h = run.Spent
+  run_outcome Spent h = outcome.Spent
 
-  run_comes : (o : MarginOutcome) (h : MarginComesTo c better budget o)
-      → ComesTo most better (start_of c) budget (run_outcome o h)
+  run_comes : (o : MarginOutcome) (h : LeadsTo c better budget d o)
+      → ComesTo most better d budget (run_outcome o h)
   unfolding run_outcome
-  run_comes (Certificate cert) h = h.ended
+  run_comes (Certificate cert) (e, h) = h.ended
   run_comes Common h = h.ended
   run_comes (Pivot k) h = h
   run_comes Spent h = h
 
-  -- a fact of a dictionary and its turn at the end of one run, of the end of the other
+  -- a fact of the dictionary and the turn at the end of one run, of the end of the other
   carried : (P : Dictionary → Turn → Type 0) (j k : ℕ) (s t : Turn) → Ended j s ≡ Ended k t
-      → P (dictionary_after c better j) s → P (dictionary_after c better k) t
-  carried P j k s t e h = subst₂ P (ap (dictionary_after c better) j_is) t_is h
+      → P (run better d j) s → P (run better d k) t
+  carried P j k s t same h = subst₂ P (ap (run better d) j_is) t_is h
     where
       j_is : j ≡ k
       j_is = cc
@@ -77,20 +83,23 @@ module _ (c : CaseView) (better : Preference) (budget : ℕ) where
       t_is : s ≡ t
       t_is = cc
 
-  same : (o q : MarginOutcome) (h : MarginComesTo c better budget o)
-      (f : MarginComesTo c better budget q)
+  same : (o q : MarginOutcome) (h : LeadsTo c better budget d o) (f : LeadsTo c better budget d q)
       → run_outcome o h ≡ run_outcome q f → o ≡ q
   unfolding run_outcome
-  same (Certificate x) (Certificate y) h f e =
+  same (Certificate x) (Certificate y) (e, h) (i, f) is =
       ap Certificate
-      (one_cert c (dictionary_after c better f.pivots) f.turn x y
-      (carried (λ d t. IsCertOf c d t x) h.pivots f.pivots h.turn f.turn e h.is) f.is)
-  same (Certificate x) Common h f e =
-      absurd (h.fits (carried (CertLeaves most c) f.pivots h.pivots f.turn h.turn (sym e) f.leaves))
+      (one_cert c (run better d f.pivots) f.turn x y
+      (carried (λ e t. IsCertOf c e t x) h.pivots f.pivots h.turn f.turn is (rw h.last at h.is))
+      (rw f.last at f.is))
+  same (Certificate x) Common (e, h) f is =
+      absurd (h.fits
+      (rw h.last
+      (carried (CertLeaves most c) f.pivots h.pivots f.turn h.turn (sym is) f.leaves)))
   same (Certificate x) (Pivot k) h f e = cc
   same (Certificate x) Spent h f e = cc
-  same Common (Certificate y) h f e =
-      absurd (f.fits (carried (CertLeaves most c) h.pivots f.pivots h.turn f.turn e h.leaves))
+  same Common (Certificate y) h (e, f) is =
+      absurd (f.fits
+      (rw f.last (carried (CertLeaves most c) h.pivots f.pivots h.turn f.turn is h.leaves)))
   same Common Common h f e = refl
   same Common (Pivot k) h f e = cc
   same Common Spent h f e = cc
@@ -104,8 +113,8 @@ module _ (c : CaseView) (better : Preference) (budget : ℕ) where
   same Spent Spent h f e = refl
 
 pub one_margin : OneOutcome → OneMargin
-one_margin law c better budget o q h f =
-    same c better budget o q h f
-    (law most better (start_of c) budget (run_outcome c better budget o h)
-    (run_outcome c better budget q f)
-    (run_comes c better budget o h) (run_comes c better budget q f))
+one_margin law c better budget d o q h f =
+    same c better budget d o q h f
+    (law most better d budget (run_outcome c better budget d o h)
+    (run_outcome c better budget d q f)
+    (run_comes c better budget d o h) (run_comes c better budget d q f))

@@ -8,15 +8,15 @@ use Rattle.core_dict.specs.Laws.{StartIsDictionary}
 use Rattle.core_rules.specs.Candidates.{Preference, before, lower_variable}
 use Rattle.core_rules.proofs.Choices.{pick_same}
 use Rattle.core_run.specs.Choice.{is_negative, row_candidate}
-use Rattle.core_run.specs.Run.{Pivots, turn, turn_from, turn_at}
+use Rattle.core_run.specs.Run.{Pivots, run, turn, turn_from, turn_at}
 use Rattle.core_run.specs.Widths.{TurnLeaves, LeavesAfter, FitsThrough, Outcome, Ended, TooWide}
 use Rattle.core_run.specs.Widths.{ComesTo}
-use Rattle.core_run.specs.Widths as run
+use Rattle.core_run.specs.Widths as outcome
 use Rattle.core_run.specs.Laws.{AgreeTo, RunIsSame, RunIsDictionary, RunKeeps}
 use Rattle.core_lp.specs.CaseProgramme.{columns, row_names, row_of}
 use Rattle.core_lp.specs.Ranks.{variable_count, ranked, as_numbered}
 use Rattle.core_lp.specs.Laws.{AsNumberedIsLeast}
-use Rattle.core_margin.specs.Last.{start_of, dictionary_after, IsCertOf, CertLeaves}
+use Rattle.core_margin.specs.Last.{start_of, IsCertOf, CertLeaves}
 use Rattle.core_margin.specs.Outcomes.{MarginOutcome, Certificate, Common, Pivot, Spent}
 use Rattle.core_margin.specs.Outcomes.{MarginComesTo}
 use Rattle.core_margin.specs.Laws.{MarginIsSame, HouseOrderIsLeast}
@@ -32,15 +32,15 @@ module _ (start : StartIsDictionary) (runs : RunIsSame) (keeps : RunKeeps)
         (sym (length-map (row_names c) (row_of c))) agree
 
     -- the same dictionary
-    stands : (k : ℕ) → dictionary_after c better k ≡ dictionary_after c other k
+    stands : (k : ℕ) → run better (start_of c) k ≡ run other (start_of c) k
     stands k = runs better other (start_of c) k (case_start start c).variables agree_start
 
     -- the same turn at it
-    numbered : (k : ℕ) → AreNumbered (dictionary_after c other k)
+    numbered : (k : ℕ) → AreNumbered (run other (start_of c) k)
         ((start_of c).cols + (start_of c).rows)
     numbered k =
         let s = keeps other (start_of c) k in
-        subst (λ (n : ℕ). AreNumbered (dictionary_after c other k) n) (ap₂ ◌+◌ s.cols s.rows)
+        subst (λ (n : ℕ). AreNumbered (run other (start_of c) k) n) (ap₂ ◌+◌ s.cols s.rows)
         (dictionary other (start_of c) k (case_start start c)).variables.numbered
 
     picks : (e : Dictionary) → AreNumbered e ((start_of c).cols + (start_of c).rows)
@@ -52,7 +52,7 @@ module _ (start : StartIsDictionary) (runs : RunIsSame) (keeps : RunKeeps)
         (n.basic j m)))
 
     turns : (k : ℕ) → turn_at better (start_of c) k ≡ turn_at other (start_of c) k
-    turns k = ap (turn better) (stands k) ∙ picks (dictionary_after c other k) (numbered k)
+    turns k = ap (turn better) (stands k) ∙ picks (run other (start_of c) k) (numbered k)
 
     -- so what is said of dictionaries and their turns
     leaves : (k : ℕ) → LeavesAfter most better (start_of c) k
@@ -79,18 +79,22 @@ module _ (start : StartIsDictionary) (runs : RunIsSame) (keeps : RunKeeps)
         leaves = leaves h.before h.leaves;
       },
     )
-    comes budget run.Spent h =
+    comes budget outcome.Spent h =
         record { fits = fits budget h.fits; goes_on = subst Pivots (turns budget) h.goes_on }
 
     margin_comes : (budget : ℕ) (o : MarginOutcome) → MarginComesTo c better budget o
         → MarginComesTo c other budget o
-    margin_comes budget (Certificate cert) h = record {
-      pivots = h.pivots;
-      turn = h.turn;
-      ended = comes budget (Ended h.pivots h.turn) h.ended;
-      fits = subst (λ (e : Dictionary). ¬ (CertLeaves most c e h.turn)) (stands h.pivots) h.fits;
-      is = subst (λ (e : Dictionary). IsCertOf c e h.turn cert) (stands h.pivots) h.is;
-    }
+    margin_comes budget (Certificate cert) (e, h) = (
+      e,
+      record {
+        pivots = h.pivots;
+        turn = h.turn;
+        ended = comes budget (Ended h.pivots h.turn) h.ended;
+        last = h.last ∙ stands h.pivots;
+        fits = h.fits;
+        is = h.is;
+      },
+    )
     margin_comes budget Common h = record {
       pivots = h.pivots;
       turn = h.turn;
@@ -98,7 +102,7 @@ module _ (start : StartIsDictionary) (runs : RunIsSame) (keeps : RunKeeps)
       leaves = subst (λ (e : Dictionary). CertLeaves most c e h.turn) (stands h.pivots) h.leaves;
     }
     margin_comes budget (Pivot k) h = comes budget (TooWide k) h
-    margin_comes budget Spent h = comes budget run.Spent h
+    margin_comes budget Spent h = comes budget outcome.Spent h
 
   pub margin_is_same : MarginIsSame
   margin_is_same c better other budget o agree = (

@@ -1,13 +1,12 @@
--- The last dictionary of the run of a case's programme, and the certificate of it.
+-- The dictionaries of a run of a case's programme, and the certificate of the last one.
 use Rattle.std.specs.Prelude.{◌≡◌, ℕ}
 use Rattle.core_book.specs.View.{CaseView}
 use Rattle.core_model.specs.declared.cert.Cert.{Cert}
-use Rattle.core_dict.specs.Dictionary.{Dictionary, start, CostsNotNegative}
+use Rattle.core_dict.specs.Dictionary.{Dictionary, IsDictionary, start, CostsNotNegative}
 use Rattle.core_dict.specs.Laws.{IsOf}
-use Rattle.core_rules.specs.Candidates.{Preference}
 use Rattle.core_run.specs.declared.end.End.{End}
 use Rattle.core_run.specs.declared.end.End.TheVariants as end
-use Rattle.core_run.specs.Run.{Turn, Best, NoSolution, PivotOn, run}
+use Rattle.core_run.specs.Run.{Turn, Best, NoSolution, PivotOn}
 use Rattle.core_run.specs.Laws.{TurnSays}
 use Rattle.core_lp.specs.CaseProgramme.{programme_of}
 use Rattle.core_lp.specs.Placing.{closes_cert, cannot_cert, ClosesLeaves, CannotLeaves}
@@ -15,10 +14,6 @@ use Rattle.core_lp.specs.Placing.{closes_cert, cannot_cert, ClosesLeaves, Cannot
 -- the dictionary that the run of a case's programme starts from
 abbrev pub start_of : CaseView → Dictionary
 start_of c = start (programme_of c)
-
--- the dictionary after k pivots
-abbrev pub dictionary_after : CaseView → Preference → ℕ → Dictionary
-dictionary_after c better k = run better (start_of c) k
 
 -- the turn with which a run ended
 abbrev pub turn_of : End → Turn
@@ -29,6 +24,12 @@ turn_of (end.Cannot r k) = NoSolution r
 abbrev pub pivots_of : End → ℕ
 pivots_of (end.Optimal k) = k
 pivots_of (end.Cannot r k) = k
+
+-- a dictionary of a case's programme from which a run may go on: no cost of it is negative
+pub record IsStanding (c : CaseView) (d : Dictionary) : Type 0 where
+  pub dictionary : IsDictionary d
+  pub of : IsOf (programme_of c) d
+  pub costs : CostsNotNegative d
 
 -- a dictionary of a case's programme without a negative cost, of which a turn says the truth
 pub record IsReached (c : CaseView) (e : Dictionary) (t : Turn) : Type 0 where
@@ -42,7 +43,7 @@ IsCertOf c e Best cert = cert ≡ closes_cert c e
 IsCertOf c e (NoSolution r) cert = cert ≡ cannot_cert c e r
 IsCertOf c e (PivotOn r s) cert = ⊥
 
--- one of its numbers is above a greatest number
+-- a number that it is made from is above a greatest number
 abbrev pub CertLeaves : ℕ → CaseView → Dictionary → Turn → Type 0
 CertLeaves most c e Best = ClosesLeaves most c e
 CertLeaves most c e (NoSolution r) = CannotLeaves most e r

@@ -1,4 +1,5 @@
 pub mod Last
 pub mod Outcomes
 pub mod Answers
+pub mod Orders
 pub mod Laws

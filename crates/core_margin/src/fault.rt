@@ -8,7 +8,7 @@ use std::alloc::AllocError;
 pub enum MarginFault {
     /// An operation of this pivot, counted from 1, leaves 128 bits.
     Pivot { pivot: u64 },
-    /// A number of the certificate is above 2^127 - 1 in absolute value.
+    /// A number that the certificate is made from is above 2^127 - 1 in absolute value, printed or not.
     Common,
     /// The run has not ended after so many pivots, which are the budget.
     Spent { pivots: u64 },

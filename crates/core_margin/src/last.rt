@@ -15,8 +15,17 @@ use core_run::{End, Ran};
 use exact_frac::Frac128;
 use std::alloc::Global;
 
-/// The certificate of the last dictionary of a run that has ended. `TooWide` comes exactly where one of its numbers is
-/// above 2^127 - 1 in absolute value, and `NoMemory` for want of memory alone.
+/// The last dictionary of a run that has ended, and its certificate.
+#[derive(Drop)]
+pub struct Solved<W> {
+    pub dict: W,
+    pub cert: Cert,
+}
+
+/// The certificate of the last dictionary of a run that has ended. `TooWide` comes exactly where a number that it is
+/// made from is above 2^127 - 1 in absolute value: the common denominator of the solution, of the dual values with the
+/// factor of the cost, or of the row that refuses; a numerator over it, printed or not; the fixed cash times the
+/// denominator, or the loss. `NoMemory` comes for want of memory alone.
 pub fn last_cert<W: Store<Frac128>>(
     alloc: Global,
     case: &Case,

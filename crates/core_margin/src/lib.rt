@@ -5,20 +5,23 @@
 #![tactic(auto)]
 
 ghost use Rattle.core_margin.specs.Laws.{SomeMargin, OneMargin, MarginIsSame, HouseOrderIsLeast};
-ghost use Rattle.core_margin.specs.Laws.{RunReaches, MarginIsValid};
+ghost use Rattle.core_margin.specs.Laws.{StartStands, RunStands, RunReaches, CertIsValid, MarginIsValid};
 
 mod fault;
 mod last;
+mod orders;
 mod over;
 
 use core_dict::start_laws;
 use core_lp::{certificate_law, rank_law};
 use core_run::{run_laws, width_laws};
 pub use fault::MarginFault;
-pub use last::last_cert;
-pub use over::{margin, margin_of_programme, margin_over};
+pub use last::{Solved, last_cert};
+pub use orders::{Order, margin_by};
+pub use over::{margin, margin_over, solve};
 
-/// A case under a preference and with a budget of pivots comes to exactly one thing.
+/// The run from a dictionary, under a preference and with a budget of pivots, comes to exactly one thing; so does a
+/// case, by the run from its start.
 pub fn outcome_law()
     ensures some { SomeMargin }
     ensures one { OneMargin }
@@ -37,12 +40,23 @@ pub fn order_laws()
     rank_law();
 }
 
-/// Each dictionary of a case's run is one of its programme, and no cost of it is negative.
+/// A run may begin at the start of a case's programme. Each dictionary of a run is one of the programme, no cost of it
+/// is negative, and the run may go on from it.
 pub fn run_reaches()
-    ensures { RunReaches }
+    ensures start { StartStands }
+    ensures stands { RunStands }
+    ensures reached { RunReaches }
 {
     run_laws();
     start_laws();
+}
+
+/// The certificate of a dictionary at which a run of a case's programme ends, wherever the run began, shows what it
+/// states and holds at every place of the check.
+pub fn cert_law()
+    ensures { CertIsValid }
+{
+    certificate_law();
 }
 
 /// The certificate that a case comes to shows what it states and holds at every place of the check.
@@ -50,5 +64,5 @@ pub fn valid_margins()
     ensures { MarginIsValid }
 {
     run_reaches();
-    certificate_law();
+    cert_law();
 }

@@ -6,6 +6,7 @@ use Rattle.core_book.specs.View.{CaseView, instrument_of, line, no_line}
 use Rattle.core_book.specs.WellFormed.{IsCase}
 use Rattle.core_book.specs.declared.parts.Side.{Side}
 use Rattle.core_book.specs.declared.parts.Side.TheVariants.{Position, Collateral}
+use Rattle.core_model.specs.Limits.{most_lines}
 
 -- a number of a side
 side_number : Side → ℕ
@@ -40,10 +41,10 @@ apart c kept i j less below e =
     ]
 
 -- so there are as many as numbers at most
-pub lines-few : (c : CaseView) → IsCase c → length c.lines ≤ 64
-lines-few c kept = pigeonhole 64 (length c.lines) (line_number c) small same
+pub lines-few : (c : CaseView) → IsCase c → length c.lines ≤ most_lines
+lines-few c kept = pigeonhole most_lines (length c.lines) (line_number c) small same
   where
-    small : (l : ℕ) → l < length c.lines → line_number c l < 64
+    small : (l : ℕ) → l < length c.lines → line_number c l < most_lines
     small l below =
         let known = (kept.lines.0 l no_line below).known in
         let few = kept.instruments.0 in

@@ -3,5 +3,6 @@ pub mod Places
 pub mod WorkedCases
 pub mod Sizes
 mod Rows
-mod Kept
+mod WorkedIsCase
+mod Neighbours
 mod Admissible

@@ -10,6 +10,7 @@ use Rattle.core_model.specs.declared.cert.Weights.{Weights}
 use Rattle.core_model.specs.Closing.{IsClosingDay, IsTierNumber, line_count}
 use Rattle.core_model.specs.Layout.{closing_place, pool_place, scenario_place, plan_of, limit_weight, pool_weight, scenario_weight, row_at_place, day_at_place, tier_at_place, pool_at_place, pool_day_at_place, scenario_at_place, house_day_at_place, amount_count}
 use Rattle.core_model.specs.Fits.{CalendarFits}
+use Rattle.core_model.specs.Limits.{most_closings, most_amounts}
 use Rattle.core_model.proofs.FewLines.{lines-few}
 
 -- a row and a column below their numbers are at a place below the product
@@ -66,11 +67,11 @@ pub tier-within : (c : CaseView) (n : ℕ) → IsTierNumber c (tier_at_place c n
 tier-within c n = let some = some-depth c in (omega (arith, some), omega (arith, some))
 
 -- there are few closings, and so few amounts
-pub closings-few : (c : CaseView) → IsCase c → amount_count c ≤ 5120
+pub closings-few : (c : CaseView) → IsCase c → amount_count c ≤ most_amounts
 closings-few c kept =
-    let days : line_count c * c.horizon ≤ 64 * 20 = mul-le-mul (lines-few c kept) kept.horizon.1 in
-    let all : line_count c * c.horizon * tiers c ≤ 64 * 20 * 4 = mul-le-mul days (few-depth c kept) in
+    let days : line_count c * c.horizon ≤ most_closings = mul-le-mul (lines-few c kept) kept.horizon.1 in
+    let all : line_count c * c.horizon * tiers c ≤ most_amounts = mul-le-mul days (few-depth c kept) in
     omega (arith, all)
 
-pub amounts-few : (c : CaseView) (x : Calendar) → IsCase c → CalendarFits c x → length x.amounts ≤ 5120
+pub amounts-few : (c : CaseView) (x : Calendar) → IsCase c → CalendarFits c x → length x.amounts ≤ most_amounts
 amounts-few c x kept fits = let few = closings-few c kept in omega (arith, few, fits.amounts.0)

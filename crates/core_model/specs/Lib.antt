@@ -6,3 +6,5 @@ pub mod Fits
 pub mod OfCase
 pub mod Conditions
 pub mod Check
+pub mod Limits
+pub mod Neighbours

@@ -42,7 +42,7 @@ impl<'a> CaseCalendar<'a> {
         ensures kept { IsCase self.now.case }
         ensures fits { CalendarFits self.now.case self.now.calendar }
     {
-        let _kept = self.case.horizon();
+        self.case.well_formed();
         self.case
     }
 
@@ -98,7 +98,7 @@ impl<'a> CaseWeights<'a> {
         ensures kept { IsCase self.now.case }
         ensures fits { WeightsFit self.now.case self.now.weights }
     {
-        let _kept = self.case.horizon();
+        self.case.well_formed();
         self.case
     }
 

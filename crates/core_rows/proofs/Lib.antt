@@ -10,6 +10,7 @@ pub mod Numbers
 pub mod ReadBack
 pub mod Dates
 pub mod RecordCount
+pub mod FirstFault
 pub mod FirstStep
 pub mod FieldWalk
 pub mod NamePlaces

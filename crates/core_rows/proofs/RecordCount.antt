@@ -6,7 +6,7 @@ use Rattle.csv.specs.declared.parser.Config.{Config}
 use Rattle.csv.specs.declared.parser.State.{State}
 use Rattle.csv.specs.declared.parser.State.TheVariants as st
 use Rattle.core_rows.specs.Names.{Record}
-use Rattle.core_rows.specs.Fields.{records}
+use Rattle.core_rows.specs.Fields.{most_bytes, records}
 
 -- one read gives at most one record more than the reads after it
 next-count : (more : State → List ℕ → List Record) (n : ℕ) (read : Option Read) → ((s : State) (xs : List ℕ) → length (more s xs) ≤ n)
@@ -40,6 +40,6 @@ records-count bytes =
     records_from-count default_config (length (strip_bom bytes) + 1) st.StartRecord (strip_bom bytes) in
     omega (arith, few, strip_bom-shorter bytes)
 
--- the records of a text of four million bytes can be numbered
-pub few-records : (bytes : List ℕ) (rows : List Record) → length bytes ≤ 4194304 → rows ≡ records bytes → length rows < 2147483648
+-- the records of a text of the greatest length can be numbered
+pub few-records : (bytes : List ℕ) (rows : List Record) → length bytes ≤ most_bytes → rows ≡ records bytes → length rows < 2147483648
 few-records bytes rows short are = omega (arith, short, ap length are, records-count bytes)

@@ -6,6 +6,9 @@ use crate::fields::Fields;
 use csv::ReaderBuilder;
 use std::alloc::{AllocError, Global};
 
+/// The greatest length of a text that is read or written, in bytes.
+pub const MOST_BYTES: usize = 4_194_304;
+
 /// Every record of a text, in the order of the text: fields between commas, no header, no trimming, and no record
 /// has to be as long as another. A byte order mark at the head of the text is no part of it. Each failure of the
 /// reader is answered as want of memory.

@@ -49,4 +49,11 @@ impl Numbers {
     {
         self.kept[i] = v;
     }
+
+    /// The numbers in their order, as a slice.
+    pub fn as_slice(&self) -> &[i128]
+        ensures { result.now ≡ self.now }
+    {
+        &self.kept
+    }
 }

@@ -1,8 +1,13 @@
-use Rattle.core_margin.proofs.Reached.{reached}
+use Rattle.core_margin.proofs.Reached.{start_stands, run_stands, run_reaches}
 use Rattle.core_margin.proofs.run_reaches.Goals as goal
 
 pub returns : goal.returns
 returns c =
     let start = c.start_laws.ensures in
     let run = c.run_laws.ensures in
-    reached start.dictionary start.costs run.turn run.keeps run.dictionary run.costs
+    let stands = run_stands run.keeps run.dictionary run.costs in
+    record {
+      start = start_stands run.keeps run.dictionary run.costs start.dictionary start.costs;
+      stands = stands;
+      reached = run_reaches stands run.turn;
+    }

@@ -3,5 +3,4 @@ use Rattle.core_margin.proofs.valid_margins.Goals as goal
 
 pub returns : goal.returns
 returns c =
-    margins_valid c.certificate_law.ensures.best c.certificate_law.ensures.no_solution
-    c.run_reaches.ensures
+    margins_valid c.run_reaches.ensures.start c.run_reaches.ensures.reached c.cert_law.ensures

@@ -1,9 +1,10 @@
-use Rattle.std.proofs.Common.{◌≡◌, ℕ, ◌<◌, ◌≤◌, ℤ, pos, map, false, true, sym, ap, ◌∙◌, subst, refl}
+use Rattle.std.proofs.Common.{◌≡◌, ℕ, ◌+◌, ◌<◌, ◌≤◌, ℤ, pos, List, length, map, false, true, sym, ap, ◌∙◌, subst, refl}
 use Rattle.std.proofs.Common.{arith, rules, unsigned_abs, below_more}
 use Rattle.std.proofs.lemmas.Int.{ints, to_z-of_z}
 use Rattle.std.proofs.lemmas.List.{length-map, length-set}
 use mir.Syntax.{w128}
 use mir.Val.{to_z, of_z}
+use Rattle.core_sums.specs.Places.{at}
 use Rattle.fractions.specs.Common.{common_den, numerator_over}
 use Rattle.exact_frac.specs.Value128.{value128}
 use Rattle.exact_frac.specs.Within.{most128}
@@ -25,15 +26,15 @@ scaled-requires-clause-divides c =
     common_divides c.args.list.now c.loop-i.i _ c.index-list-i.result c.loop-i-test.true c.index-list-i.is
     (ap unsigned_abs (to_z-of_z w128 c.in_ok-den.den (search rules) ∙ c.in_ok-den.ensures.exact))
 
-pub returns-in_err-numbers-2-clause-too_wide : goal.returns-in_err-numbers-2-clause-too_wide
-returns-in_err-numbers-2-clause-too_wide c =
+pub returns-in_err-scaled-clause-too_wide : goal.returns-in_err-scaled-clause-too_wide
+returns-in_err-scaled-clause-too_wide c =
     let xs = c.args.list.now in
     λ _. one_leaves most128 (map value128 xs) c.loop-i.i
     (omega (arith, c.loop-i-test.true, length-map xs value128))
     (subst (λ (z : ℤ). most128 < unsigned_abs z)
     (numerator_read xs c.loop-i.i _ c.index-list-i.result c.loop-i-test.true c.index-list-i.is
     (ap unsigned_abs (to_z-of_z w128 c.in_ok-den.den (search rules) ∙ c.in_ok-den.ensures.exact)))
-    (c.in_err-numbers-2.ensures.left.0 refl))
+    (c.in_err-scaled.ensures.left.0 refl))
 
 pub loop-i-preserved : goal.loop-i-preserved
 loop-i-preserved c =
@@ -46,13 +47,14 @@ loop-i-preserved c =
     (ap unsigned_abs (to_z-of_z w128 c.in_ok-den.den (search rules) ∙ c.in_ok-den.ensures.exact)) in
     let fits : most128 < unsigned_abs (f i) → ⊥ =
     λ h. let e : false ≡ true =
-    c.in_ok-numbers-2.ensures.left.1 (subst (λ (z : ℤ). most128 < unsigned_abs z) (sym is) h) in
+    c.in_ok-scaled.ensures.left.1 (subst (λ (z : ℤ). most128 < unsigned_abs z) (sym is) h) in
     (cc) in
     record {
-      width = length-set c.loop-i.numbers.items i _ ∙ c.loop-i.invariant.width;
-      each = more_written c.loop-i.numbers.items i _ f
+      width = ap length c.set.ensures ∙ length-set c.loop-i.nums i _
+          ∙ c.loop-i.invariant.width;
+      each = subst (λ (ns : List ℤ). (k : ℕ) → k < i + 1 → at ns k ≡ f k) (sym c.set.ensures) (more_written c.loop-i.nums i _ f
           (omega (arith, c.loop-i-test.true, c.loop-i.invariant.width)) c.loop-i.invariant.each
-          (to_z-of_z w128 c.in_ok-numbers-2.field-0 (search rules) ∙ c.in_ok-numbers-2.ensures.exact ∙ is);
+          (to_z-of_z w128 c.in_ok-scaled.field-0 (search rules) ∙ c.in_ok-scaled.ensures.exact ∙ is));
       fits = below_more (λ (k : ℕ). unsigned_abs (f k) ≤ most128) i c.loop-i.invariant.fits
           (omega (arith, fits));
     }
@@ -62,7 +64,7 @@ returns-clause-exact c =
     let xs = c.args.list.now in
     record {
       den = to_z-of_z w128 c.in_ok-den.den (search rules) ∙ c.in_ok-den.ensures.exact;
-      numbers = numerators (map value128 xs) c.loop-i.numbers.items
+      nums = numerators (map value128 xs) c.loop-i.nums
           (c.loop-i.invariant.width ∙ sym (length-map xs value128))
           (λ k l. c.loop-i.invariant.each k
           (omega (arith, l, c.loop-i-test.false, length-map xs value128)));

@@ -8,9 +8,9 @@ use Rattle.core_duals.proofs.scaled.over_common.Given as goal
 
 abbrev pub invariant-loop-i : goal.invariant-loop-i
 invariant-loop-i l = record {
-  width : length l.numbers.items ≡ length l.list;
+  width : length l.nums ≡ length l.list;
   each : (k : ℕ) → k < l.i
-      → at l.numbers.items k
+      → at l.nums k
       ≡ numerator_over (common_den (map value128 l.list)) (fraction_at value128 l.list k);
   fits : (k : ℕ) → k < l.i
       → unsigned_abs (numerator_over (common_den (map value128 l.list)) (fraction_at value128 l.list k))
