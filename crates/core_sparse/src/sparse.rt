@@ -2,7 +2,7 @@
 ghost use Rattle.std.specs.Prelude.{◌≡◌, ◌≢◌, ◌<◌, length, Err, OnOk, unsigned_abs};
 ghost use Rattle.fractions.specs.Fraction.{zero_q};
 ghost use Rattle.core_dict.specs.Variables.{HaveVariables};
-ghost use Rattle.core_sparse.specs.Items.{IsWithin128, AreItemsOf};
+ghost use Rattle.core_sparse.specs.Items.{AreItems, AreItemsOf};
 ghost use Rattle.core_sparse.specs.Steps.{AreKept};
 
 use crate::fault::Fault;
@@ -30,7 +30,7 @@ pub struct Sparse<E: Exact> {
     spare_costs: Vec<Item<E>>,
     ghost rows: { length slots.items ≡ length basic.items },
     ghost kept: { AreKept E.value (length nonbasic.items) slots.items },
-    ghost costs_kept: { IsWithin128 E.value (length nonbasic.items) costs.items },
+    ghost costs_kept: { AreItems E.value (length nonbasic.items) costs.items },
     ghost variables: { HaveVariables basic.items nonbasic.items },
 }
 
