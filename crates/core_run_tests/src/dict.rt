@@ -1,10 +1,7 @@
-ghost use Rattle.std.specs.Prelude.{◌≡◌, ◌↔◌, IsTrue};
-ghost use Rattle.fractions.specs.Fraction.{zero_q};
-
 use crate::exact::pair;
 use crate::runs::{leaves_64, near_62, start_of, two_scenarios};
 use crate::same::is_same;
-use core_dict::{Dense, PivotFault, Store, Widen};
+use core_dict::{Dense, PivotFault, Store, Widen, is_zero};
 use core_sparse::Sparse;
 use exact_frac::{Exact, Frac64, Frac128};
 use std::alloc::{AllocError, Global};
@@ -71,13 +68,6 @@ pub(crate) fn text_of<E: Exact, D: Store<E>>(
     push_rows(alloc, &mut text, dict)?;
     push_costs(alloc, &mut text, dict)?;
     Ok(text)
-}
-
-// whether a number is 0
-fn is_zero<E: Exact>(x: E) -> bool
-    ensures { IsTrue result ↔ (E.value x ≡ zero_q) }
-{
-    x.sign() == 0
 }
 
 pub(crate) fn pivot<E: Exact, D: Store<E>>(

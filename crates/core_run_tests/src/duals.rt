@@ -35,7 +35,7 @@ fn last_of(rt: &impl Abort, alloc: Global, programme: Programme, wanted: End) ->
 fn numbers_are(rt: &impl Abort, shown: Result<Scaled, DualFault>, den: i128, numbers: &[i128]) {
     let shown = shown.expect(rt, "a common denominator");
     is_same(rt, shown.den, den);
-    is_same(rt, shown.numbers.as_slice(), numbers);
+    is_same(rt, shown.nums.as_slice(), numbers);
 }
 
 /// The common denominator.

@@ -1,4 +1,5 @@
-ghost use Rattle.std.specs.Prelude.{◌≡◌, ◌≤◌, ◌^◌, length, unsigned_abs};
+ghost use Rattle.std.specs.Prelude.{◌≡◌, ◌≤◌, length, unsigned_abs};
+ghost use Rattle.core_sums.specs.Widths.{most64};
 ghost use Rattle.core_rules.specs.Candidates.{before, IsRanked};
 ghost use Rattle.core_rules.specs.Rules.{candidate_of, rule_by, rule_view, Keeps};
 
@@ -9,7 +10,7 @@ use std::process::Abort;
 use std::test::Fail;
 
 fn cand(var: u32, value: i64) -> Cand
-    requires { unsigned_abs value ≤ 2 ^ 62 }
+    requires { unsigned_abs value ≤ most64 }
     ensures { result.var ≡ var }
 {
     let value = Frac128::of_whole(value);

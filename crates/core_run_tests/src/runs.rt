@@ -3,6 +3,7 @@ ghost use Rattle.std.specs.Prelude.{IfOk};
 ghost use Rattle.core_dict.specs.Dictionary.{CostsNotNegative};
 
 use crate::exact::pair;
+use crate::programmes::TWO_SCENARIOS;
 use crate::refuse::Refuse;
 use crate::same::is_same;
 use core_dict::{Dense, Programme, Store, Widen};
@@ -11,20 +12,6 @@ use core_run::{End, Ran, RunFault, run, run_wide};
 use exact_frac::{Exact, Frac64, Frac128};
 use std::alloc::{AllocError, Global};
 use std::process::Abort;
-
-/// A share sold on two days in two scenarios: its columns are what is closed on day 1 and on day 2, and the loss.
-const TWO_SCENARIOS: [([i64; 3], i64); 10] = [
-    ([1, 1, 0], 1),
-    ([-1, -1, 0], -1),
-    ([1, 0, 0], 1),
-    ([0, 1, 0], 1),
-    ([-8, 0, -1], 0),
-    ([-8, -2, -1], 0),
-    ([-8, -2, -1], -10),
-    ([-3, 0, -1], 0),
-    ([-3, -6, -1], 0),
-    ([-3, -6, -1], -10),
-];
 
 /// Rows whose first pivot leaves 64 bits.
 const LEAVES_64: [([i64; 3], i64); 2] = [([-10000000, -1, 0], -1), ([-1, -1000000000000, 0], -1)];
