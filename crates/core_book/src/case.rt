@@ -187,8 +187,7 @@ impl Case {
 
     /// Whether an instrument's closings of a day, from 1, count towards limits and pools: false exactly on its expiry.
     pub fn counts(&self, i: usize, u: u8) -> bool
-        requires instrument { i < length self.now.instruments }
-        requires day { 1 ≤ u }
+        requires { i < length self.now.instruments }
         ensures { result ≡ counts self.now i u }
     {
         u != self.book.instruments[i].expiry

@@ -35,8 +35,8 @@ fn ended(rows: &[Fields]) -> Result<(), CaseFault>
     requires { length rows.now < 2 ^ 31 }
     ensures ended { IfOk result (λ _.
         missing_after (length rows.now) (has_ended rows.now) FirstNotEdits EndMissing ≡ None) }
-    ensures fault { IfErr result (λ fault.
-        IsFault fault (missing_after (length rows.now) (has_ended rows.now) FirstNotEdits EndMissing)) }
+    ensures fault { IfErr result (λ fault. IsFault fault
+        (missing_after (length rows.now) (has_ended rows.now) FirstNotEdits EndMissing)) }
 {
     let missing = missing_after(
         rows.len(),
