@@ -1,6 +1,5 @@
--- When a count of faults rose, what a read gives and what a write appends.
-use Rattle.std.specs.Prelude.{◌≡◌, ℕ, ◌+◌, ◌-◌, ◌^◌, ◌<◌, ◌≤◌, min, List, ◌++◌, length, take, drop, ⊤, Option, Some, None}
-use Rattle.std.specs.Option.{option_map}
+-- When a count of faults rose, and what a read gives where the bytes are told.
+use Rattle.std.specs.Prelude.{◌≡◌, ℕ, ◌+◌, ◌-◌, ◌^◌, ◌<◌, ◌≤◌, min, List, length, take, drop, ⊤, Option, Some, None}
 
 -- a count after one more: it stands still at the last value of a u64
 abbrev pub next_count : ℕ → ℕ
@@ -19,11 +18,3 @@ pub record GivesFrom (bytes : List ℕ) (at n : ℕ) (into : List ℕ) : Type 0 
 abbrev pub GivesIfTold : Option (List ℕ) → ℕ → ℕ → List ℕ → Type 0
 GivesIfTold None at n into = ⊤
 GivesIfTold (Some bytes) at n into = GivesFrom bytes at n into
-
--- what is held now is what was held and then the text, where it is told
-abbrev pub Appends : Option (List ℕ) → Option (List ℕ) → List ℕ → Type 0
-Appends old new text = new ≡ option_map (λ held. held ++ text) old
-
--- a part of the text from its start was appended, and not all of it
-abbrev pub AppendsPart : Option (List ℕ) → Option (List ℕ) → List ℕ → Type 0
-AppendsPart old new text = (n : ℕ) × (n < length text) × Appends old new (take n text)

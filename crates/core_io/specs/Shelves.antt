@@ -5,6 +5,7 @@ use Rattle.std.specs.BTreeMap.{get_by_text}
 use Rattle.std.specs.Str.{bytes_eq}
 use Rattle.core_io.specs.declared.memory_shelf.MemShelf.{MemShelf}
 use Rattle.core_io.specs.Calls.{CallsView, fails_next}
+use Rattle.core_io.specs.Passed.{Passed}
 use Rattle.core_io.specs.States.{ShelfState}
 
 -- the bytes under a name
@@ -15,9 +16,13 @@ told_by shelf name = option_map (λ entry. entry.bytes.items) (get_by_text shelf
 abbrev pub faults_of : MemShelf → List ℕ → ℕ
 faults_of shelf name = option_map_or (λ entry. entry.faults) (get_by_text shelf.entries name) shelf.missing
 
+-- what its reads gave, in order
+abbrev pub reads_of : MemShelf → List Passed
+reads_of shelf = shelf.log.pieces
+
 -- what a call sees of the shelf
 abbrev pub state_of : MemShelf → ShelfState
-state_of shelf = record { told = told_by shelf; faults = faults_of shelf }
+state_of shelf = record { told = told_by shelf; reads = reads_of shelf; faults = faults_of shelf }
 
 -- the reads so far, and which are to fail
 abbrev pub calls_of : MemShelf → CallsView

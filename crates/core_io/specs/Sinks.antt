@@ -1,5 +1,5 @@
 -- What a sink in memory holds, takes and counts.
-use Rattle.std.specs.Prelude.{ℕ, ◌-◌, min, Some, Bool, ◌||◌, ◌&&◌, nat_lt, nat_le, List, [], length}
+use Rattle.std.specs.Prelude.{ℕ, ◌-◌, min, Bool, ◌||◌, ◌&&◌, nat_lt, nat_le, List, [], length}
 use Rattle.core_io.specs.Calls.{CallsView, no_calls, fails_next}
 use Rattle.core_io.specs.States.{SinkState}
 
@@ -13,7 +13,7 @@ pub record SinkView : Type 0 where
 
 -- what a call sees of the sink
 abbrev pub state_of : SinkView → SinkState
-state_of sink = record { held = Some sink.written; faults = sink.faults }
+state_of sink = record { held = sink.written; faults = sink.faults }
 
 -- a sink in which nothing is written
 abbrev pub empty_sink : ℕ → ℕ → SinkView

@@ -2,13 +2,16 @@
 //! the standard output.
 #![tactic(auto)]
 
-ghost use Rattle.std.specs.Prelude.{◌≡◌, ◌<◌, ◌≤◌, length, take, IfOk, OnOk, OnErr, IfSome};
+ghost use Rattle.std.specs.Prelude.{◌≡◌, ◌^◌, ◌-◌, ◌<◌, ◌≤◌, length, take, IfOk, OnOk, OnErr, IfSome};
 ghost use Rattle.core_io.specs.Causes.{GivesIfTold};
-ghost use Rattle.core_io.specs.States.{ShelfState, SinkState, KeepsBytes, KeepsCounts, KeepsCount, ReadFailed, WriteFailed, Writes, WritesPart};
+ghost use Rattle.core_io.specs.Passed.{passed};
+ghost use Rattle.core_io.specs.States.{ShelfState, SinkState, KeepsBytes, KeepsCounts, KeepsCount, ReadFailed, WriteFailed};
+ghost use Rattle.core_io.specs.States.{Gave, ReadWhole, ReadMore, Writes, WritesPart};
 
 use std::alloc::Global;
 
 mod calls;
+mod log;
 mod memory_shelf;
 mod memory_sink;
 mod system;
@@ -43,7 +46,8 @@ pub enum ReadAll {
 
 /// Bytes by name, with a count of the faults of each name.
 pub trait Shelf {
-    /// The bytes under each name, where the shelf tells them, and how many reads of it have failed.
+    /// The bytes under each name, where the shelf tells them, what its reads gave, in order, and how many reads of
+    /// each name have failed.
     ghost state: { Self → ShelfState };
 
     /// Reads bytes of a name from place `at` on, counted from 0, and answers how many it put at the head of `into`.
@@ -52,6 +56,9 @@ pub trait Shelf {
         ensures kept { KeepsBytes (state self.old) (state self.new) }
         ensures counts { KeepsCounts (state self.old) (state self.new) }
         ensures fits { IfOk result (λ n. n ≤ length into.new) }
+        ensures gave { IfOk result (λ n. Gave (state self.old) (state self.new)
+            (passed name.now at into.new n)) }
+        ensures failed { OnErr result ((state self.new).reads ≡ (state self.old).reads) }
         ensures gives { IfOk result (λ n. GivesIfTold ((state self.old).told name.now) at n
             into.new) }
         ensures cause { result ≡ Err ShelfFault.Failed
@@ -60,7 +67,7 @@ pub trait Shelf {
 
 /// A place where bytes are written one after the other, with a count of its faults.
 pub trait Sink {
-    /// All bytes written so far, where the sink tells them, and how many writes have failed.
+    /// The bytes that its writes took, in order, and how many writes have failed.
     ghost state: { Self → SinkState };
 
     /// Writes bytes from the head of the piece and answers how many, at least one where the piece has any.
@@ -75,20 +82,28 @@ pub trait Sink {
         ensures cause { OnErr result (WriteFailed (state self.old) (state self.new)) };
 }
 
-/// The bytes under the name, at most `most` of them. Long says that more are there: it is answered once
-/// `most` + 1 bytes were read. Fault comes only from a counted fault of this name.
+/// The bytes under the name, at most `most` of them: what its own reads gave, from the head of the file on, until one
+/// gave none. Long says that they gave more: it is answered once `most` + 1 bytes were read. Fault comes only from a
+/// counted fault of this name.
 pub fn read_all<S: Shelf>(
     alloc: Global,
     shelf: &mut S,
     name: &str,
     most: u64,
 ) -> Result<Vec<u8>, ReadAll>
-    requires { most ≤ 4194304 }
+    requires { most < 2 ^ 64 - 1 }
 
-    ensures bytes { IfOk result (λ v. IfSome ((S.state shelf.old).told name.now)
-        (λ bytes. v.items ≡ bytes)) }
+    // What was read, and no other bytes.
+    ensures bytes { IfOk result (λ v. ReadWhole (S.state shelf.old) (S.state shelf.new) name.now
+        v.items) }
     ensures at_most { IfOk result (λ v. length v.items ≤ most) }
-    ensures long { result ≡ Err ReadAll.Long → IfSome ((S.state shelf.old).told name.now)
+    ensures long { result ≡ Err ReadAll.Long
+        → ReadMore (S.state shelf.old) (S.state shelf.new) name.now most }
+
+    // Where the shelf tells the bytes under the name, it is those.
+    ensures bytes_told { IfOk result (λ v. IfSome ((S.state shelf.old).told name.now)
+        (λ bytes. v.items ≡ bytes)) }
+    ensures long_told { result ≡ Err ReadAll.Long → IfSome ((S.state shelf.old).told name.now)
         (λ bytes. most < length bytes) }
 
     // Only a fault of this name is answered as one, and a read changes no bytes.

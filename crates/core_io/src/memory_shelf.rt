@@ -1,10 +1,12 @@
 // A shelf in memory.
-ghost use Rattle.std.specs.Prelude.{◌≡◌, ◌≢◌, ◌≤◌, ◌-◌, ℕ, List, Some, None, min, length, take, drop, ◌&&◌, if◌then◌else◌, is_err, IfOk, IfSome, OnOk, OnErr};
+ghost use Rattle.std.specs.Prelude.{◌≡◌, ◌≢◌, ◌≤◌, ◌-◌, ℕ, List, [], Some, None, min, length, take, drop, ◌&&◌, if◌then◌else◌, is_err, IfOk, IfSome, OnOk, OnErr};
 ghost use Rattle.core_io.specs.Causes.{GivesIfTold, next_count};
-ghost use Rattle.core_io.specs.States.{KeepsBytes, KeepsCounts, ReadFailed};
+ghost use Rattle.core_io.specs.Passed.{passed};
+ghost use Rattle.core_io.specs.States.{Gave, KeepsBytes, KeepsCounts, ReadFailed};
 ghost use Rattle.core_io.specs.Calls.{no_calls, after_call, with_failing};
 
 use crate::calls::Calls;
+use crate::log::Log;
 use crate::{Shelf, ShelfFault};
 use std::alloc::{AllocError, Global};
 use std::collections::BTreeMap;
@@ -23,15 +25,17 @@ pub struct MemShelf {
     entries: BTreeMap<String, Entry>,
     missing: u64,
     calls: Calls,
+    log: Log,
 }
 
 impl MemShelf {
-    ghost use Rattle.core_io.specs.Shelves.{told_by, faults_of, calls_of, shares_count};
+    ghost use Rattle.core_io.specs.Shelves.{told_by, reads_of, faults_of, calls_of, shares_count};
 
     /// A shelf that holds no name. Takes no memory.
     pub fn make(alloc: Global) -> MemShelf
         ensures no_name { (name : List ℕ) → told_by result name ≡ None }
         ensures no_fault { (name : List ℕ) → faults_of result name ≡ 0 }
+        ensures no_read { reads_of result ≡ [] }
         ensures no_call { calls_of result ≡ no_calls }
     {
         MemShelf {
@@ -39,6 +43,7 @@ impl MemShelf {
             entries: BTreeMap::new(alloc),
             missing: 0,
             calls: Calls::new(alloc),
+            log: Log::new(),
         }
     }
 
@@ -49,6 +54,7 @@ impl MemShelf {
         ensures others { (other : List ℕ) → other ≢ name.now
             → told_by self.new other ≡ told_by self.old other }
         ensures counts { (other : List ℕ) → faults_of self.new other ≡ faults_of self.old other }
+        ensures reads { reads_of self.new ≡ reads_of self.old }
         ensures calls { calls_of self.new ≡ calls_of self.old }
         ensures err { OnErr result (told_by self.new name.now ≡ told_by self.old name.now) }
     {
@@ -65,6 +71,7 @@ impl MemShelf {
         ensures ok { OnOk result (calls_of self.new ≡ with_failing (calls_of self.old) call) }
         ensures err { OnErr result (calls_of self.new ≡ calls_of self.old) }
         ensures kept { (name : List ℕ) → told_by self.new name ≡ told_by self.old name }
+        ensures reads { reads_of self.new ≡ reads_of self.old }
         ensures counts { (name : List ℕ) → faults_of self.new name ≡ faults_of self.old name }
     {
         self.calls.fail_at(call)
@@ -87,6 +94,7 @@ impl MemShelf {
             ≡ (if shares_count self.old name.now other then next_count (faults_of self.old other)
             else faults_of self.old other) }
         ensures counts { (other : List ℕ) → faults_of self.old other ≤ faults_of self.new other }
+        ensures reads { reads_of self.new ≡ reads_of self.old }
         ensures calls { calls_of self.new ≡ calls_of self.old }
     {
         let more = self.count(name).saturating_add(1);
@@ -112,7 +120,7 @@ fn copy_from(bytes: &[u8], at: u64, into: &mut [u8]) -> usize
 }
 
 impl Shelf for MemShelf {
-    ghost use Rattle.core_io.specs.Shelves.{state_of, told_by, faults_of, calls_of, read_fails, shares_count};
+    ghost use Rattle.core_io.specs.Shelves.{state_of, told_by, reads_of, faults_of, calls_of, read_fails, shares_count};
 
     ghost state = { state_of };
 
@@ -122,6 +130,9 @@ impl Shelf for MemShelf {
         ensures kept { KeepsBytes (state_of self.old) (state_of self.new) }
         ensures counts { KeepsCounts (state_of self.old) (state_of self.new) }
         ensures fits { IfOk result (λ n. n ≤ length into.new) }
+        ensures gave { IfOk result (λ n. Gave (state_of self.old) (state_of self.new)
+            (passed name.now at into.new n)) }
+        ensures failed { OnErr result (reads_of self.new ≡ reads_of self.old) }
         ensures gives { IfOk result (λ n. GivesIfTold (told_by self.old name.now) at n into.new) }
         ensures cause { result ≡ Err ShelfFault.Failed
             → ReadFailed (state_of self.old) (state_of self.new) name.now }
@@ -141,7 +152,11 @@ impl Shelf for MemShelf {
             return Err(ShelfFault::Failed);
         }
         match self.entries.get(name) {
-            Some(entry) => Ok(copy_from(&entry.bytes, at, into)),
+            Some(entry) => {
+                let n = copy_from(&entry.bytes, at, into);
+                self.log.add(name.as_bytes(), at, into, n);
+                Ok(n)
+            }
             None => unreachable!(),
         }
     }

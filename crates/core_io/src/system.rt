@@ -1,7 +1,11 @@
-// A shelf over real files and a sink over the standard output. Neither tells its bytes.
-ghost use Rattle.std.specs.Prelude.{List, ℕ, None, ◌<◌, ◌≤◌, ◌≡◌, ◌≢◌, IfOk, OnOk, OnErr, length};
-ghost use Rattle.core_io.specs.Causes.{Rose, next_count};
+// A shelf over real files and a sink over the standard output: what the calls of the system gave and took.
+ghost use Rattle.std.specs.Prelude.{List, [], ℕ, None, ◌<◌, ◌≤◌, ◌≡◌, ◌≢◌, IfOk, OnOk, OnErr, length, take};
+ghost use Rattle.core_io.specs.Causes.{next_count};
+ghost use Rattle.core_io.specs.Passed.{passed};
+ghost use Rattle.core_io.specs.States.{Gave, KeepsBytes, KeepsCount, KeepsCounts, ReadFailed, WriteFailed, Writes};
+ghost use Rattle.core_io.specs.System.{state_of};
 
+use crate::log::Log;
 use crate::{Failed, Shelf, ShelfFault, Sink};
 use std::fs::File;
 use std::io::{Read, Seek, SeekFrom};
@@ -17,31 +21,35 @@ struct Place {
     at: u64,
 }
 
-/// Real files by their names. One count of faults serves every name, and contracts see the shelf as that count.
+/// Real files by their names. One count of faults serves every name, and contracts see the shelf as that count and as
+/// what its reads gave.
 #[derive(Drop)]
 pub struct FileShelf {
     rt: HostRuntime,
     place: Option<Place>,
+    log: Log,
     faults: u64,
 }
 
 impl Model for FileShelf {
-    ghost use Rattle.std.specs.Prelude.{ℕ};
+    ghost use Rattle.core_io.specs.System.{FilesView};
 
-    ghost Value = { ℕ };
+    ghost Value = { FilesView };
 
-    ghost view = { λ s. s.faults };
+    ghost view = { λ s. record { reads = s.log.pieces; faults = s.faults } };
 }
 
 impl FileShelf {
-    /// A shelf of the files that the program can open. It tells no bytes, and its count starts at 0.
+    /// A shelf of the files that the program can open. It tells no bytes but by its reads, and its count starts at 0.
     pub fn make(rt: HostRuntime) -> FileShelf
+        ensures no_read { (⟦<FileShelf as Shelf>⟧.state result).reads ≡ [] }
         ensures untold { (name : List ℕ) → (⟦<FileShelf as Shelf>⟧.state result).told name ≡ None }
         ensures no_fault { (name : List ℕ) → (⟦<FileShelf as Shelf>⟧.state result).faults name ≡ 0 }
     {
         FileShelf {
             rt,
             place: None,
+            log: Log::new(),
             faults: 0,
         }
     }
@@ -73,10 +81,14 @@ impl FileShelf {
     /// Reads at the place of this call, and keeps where it ended.
     fn read_on(&mut self, name: &str, at: u64, into: &mut [u8]) -> io::Result<usize>
         ensures fits { IfOk result (λ n. n ≤ length into.new) }
-        ensures faults { self.new ≡ self.old }
+        ensures gave { IfOk result (λ n. Gave (state_of self.old) (state_of self.new)
+            (passed name.now at into.new n)) }
+        ensures failed { OnErr result (self.new ≡ self.old) }
+        ensures faults { self.new.faults ≡ self.old.faults }
     {
         let mut place = self.place_for(name, at)?;
         let n = place.file.read(into)?;
+        self.log.add(name.as_bytes(), at, into, n);
         place.at = at.saturating_add(n as u64);
         self.place = Some(place);
         Ok(n)
@@ -84,15 +96,24 @@ impl FileShelf {
 }
 
 impl Shelf for FileShelf {
-    ghost state = { λ count. record { told = λ _. None; faults = λ _. count } };
+    ghost state = { state_of };
 
     /// Counts each failure but want of memory, and nothing else.
     fn read(&mut self, name: &str, at: u64, into: &mut [u8]) -> Result<usize, ShelfFault>
+        ensures kept { KeepsBytes (state_of self.old) (state_of self.new) }
+        ensures counts { KeepsCounts (state_of self.old) (state_of self.new) }
         ensures fits { IfOk result (λ n. n ≤ length into.new) }
-        ensures counts { self.old ≤ self.new }
-        ensures cause { result ≡ Err ShelfFault.Failed → Rose self.old self.new }
-        ensures counted { result ≡ Err ShelfFault.Failed → self.new ≡ next_count self.old }
-        ensures uncounted { result ≢ Err ShelfFault.Failed → self.new ≡ self.old }
+        ensures gave { IfOk result (λ n. Gave (state_of self.old) (state_of self.new)
+            (passed name.now at into.new n)) }
+        ensures failed { OnErr result (self.new.reads ≡ self.old.reads) }
+        ensures cause { result ≡ Err ShelfFault.Failed
+            → ReadFailed (state_of self.old) (state_of self.new) name.now }
+
+        // Beyond what each shelf promises: the count goes one up, and nothing else is counted.
+        ensures counted { result ≡ Err ShelfFault.Failed
+            → self.new.faults ≡ next_count self.old.faults }
+        ensures uncounted { result ≢ Err ShelfFault.Failed
+            → self.new.faults ≡ self.old.faults }
     {
         match self.read_on(name, at, into) {
             Ok(n) => Ok(n),
@@ -108,44 +129,63 @@ impl Shelf for FileShelf {
     }
 }
 
-/// The standard output. Contracts see it as its count of faults.
+/// The standard output. Contracts see it as what its writes took and its count of faults.
 #[derive(Drop)]
 pub struct OutSink {
     out: Stdout,
+    log: Log,
     faults: u64,
 }
 
 impl Model for OutSink {
-    ghost use Rattle.std.specs.Prelude.{ℕ};
+    ghost use Rattle.core_io.specs.Passed.{all_bytes};
+    ghost use Rattle.core_io.specs.States.{SinkState};
 
-    ghost Value = { ℕ };
+    ghost Value = { SinkState };
 
-    ghost view = { λ s. s.faults };
+    ghost view = { λ s. record { held = all_bytes s.log.pieces; faults = s.faults } };
 }
 
 impl OutSink {
-    /// A sink over the standard output. It tells no bytes, and its count starts at 0.
+    /// A sink over the standard output, to which nothing is written. Its count starts at 0.
     pub fn make(out: Stdout) -> OutSink
-        ensures untold { (⟦<OutSink as Sink>⟧.state result).held ≡ None }
-        ensures no_fault { (⟦<OutSink as Sink>⟧.state result).faults ≡ 0 }
+        ensures { result ≡ record { held = []; faults = 0 } }
     {
-        OutSink { out, faults: 0 }
+        OutSink {
+            out,
+            log: Log::new(),
+            faults: 0,
+        }
+    }
+
+    /// Asks the system to take bytes from the head of the piece, and answers how many it took.
+    fn write_on(&mut self, piece: &[u8]) -> io::Result<usize>
+        ensures fits { IfOk result (λ n. n ≤ length piece.now) }
+        ensures took { IfOk result (λ n. Writes self.old self.new (take n piece.now)) }
+        ensures failed { OnErr result (self.new ≡ self.old) }
+        ensures faults { self.new.faults ≡ self.old.faults }
+    {
+        let n = self.out.write_some(piece)?;
+        self.log.add(b"", 0, piece, n);
+        Ok(n)
     }
 }
 
 impl Sink for OutSink {
-    ghost state = { λ count. record { held = None; faults = count } };
+    ghost state = { λ sink. sink };
 
     /// Counts each failure, which is also a write that takes nothing of a piece that is not empty, and nothing else.
     fn write(&mut self, piece: &[u8]) -> Result<usize, Failed>
         ensures fits { IfOk result (λ n. n ≤ length piece.now) }
         ensures some { IfOk result (λ n. 0 < length piece.now → 0 < n) }
-        ensures counts { self.old ≤ self.new }
-        ensures cause { OnErr result (Rose self.old self.new) }
-        ensures counted { OnErr result (self.new ≡ next_count self.old) }
-        ensures uncounted { OnOk result (self.new ≡ self.old) }
+        ensures appends { IfOk result (λ n. Writes self.old self.new (take n piece.now)) }
+        ensures unchanged { OnErr result (self.new.held ≡ self.old.held) }
+        ensures counts { KeepsCount self.old self.new }
+        ensures cause { OnErr result (WriteFailed self.old self.new) }
+        ensures counted { OnErr result (self.new.faults ≡ next_count self.old.faults) }
+        ensures uncounted { OnOk result (self.new.faults ≡ self.old.faults) }
     {
-        match self.out.write_some(piece) {
+        match self.write_on(piece) {
             Ok(n) if n > 0 || piece.is_empty() => Ok(n),
             _ => {
                 self.faults = self.faults.saturating_add(1);

@@ -2,15 +2,15 @@
 use Rattle.std.proofs.Common.{◌≡◌, refl, sym, ◌∙◌, subst, ℕ, ◌<◌, ◌≤◌, ◌⊎◌, inl, inr, List, length, arith, Option, Some, None, IfSome, IsSome, Result, Ok, Err}
 use Rattle.core_io.specs.Causes.{Rose}
 use Rattle.core_top.specs.declared.answers.File.{File}
-use Rattle.core_top.specs.declared.answers.Line.TheVariants.{Unread, Bad}
-use Rattle.core_top.specs.Answers.{bad_status, line_text}
+use Rattle.core_top.specs.declared.answers.Reply.TheVariants.{Unread, Bad}
+use Rattle.core_top.specs.Answers.{bad_status, reply_text}
 use Rattle.core_top.specs.Files.{file_limit, ReadAs, Has, unread, too_long, AtFile, not_read, faulty, stated}
 
 -- the answer, by its causes
 pub by-cause : {T : Type 0} (file : File) (reads : List ℕ → Result T (ℕ × ℕ)) (told : Option (List ℕ)) (risen : Type 0) (Then : T → ℕ → List ℕ → Type 0) (P : ℕ → List ℕ → Type 0)
-    → (risen → P 6 (line_text (Unread file)))
-    → (IfSome told (λ bytes. file_limit < length bytes) → P (bad_status file) (line_text (Bad file 0 0)))
-    → ((row code : ℕ) → ReadAs reads told (Err (row, code)) → P (bad_status file) (line_text (Bad file row code)))
+    → (risen → P 6 (reply_text (Unread file)))
+    → (IfSome told (λ bytes. file_limit < length bytes) → P (bad_status file) (reply_text (Bad file 0 0)))
+    → ((row code : ℕ) → ReadAs reads told (Err (row, code)) → P (bad_status file) (reply_text (Bad file row code)))
     → ((x : T) (status : ℕ) (text : List ℕ) → ReadAs reads told (Ok x) → Then x status text → P status text)
     → (status : ℕ) (text : List ℕ) → AtFile file reads told risen Then status text → P status text
 by-cause file reads told risen Then P f g h k status text (not_read s t (unread here)) = f here
@@ -41,7 +41,7 @@ never-both {T} x fault r e f = let both : Ok x ≡ Err fault = sym e ∙ f in ab
 
 -- where something is stated, the answer is a counted fault or what is due then
 pub at-has : {T : Type 0} (file : File) (reads : List ℕ → Result T (ℕ × ℕ)) (told : List ℕ → Option (List ℕ)) (name : List ℕ) (x : T) (risen : Type 0) (Then : T → ℕ → List ℕ → Type 0) (P : ℕ → List ℕ → Type 0)
-    → Has reads told name x → (risen → P 6 (line_text (Unread file))) → ((s : ℕ) (t : List ℕ) → Then x s t → P s t)
+    → Has reads told name x → (risen → P 6 (reply_text (Unread file))) → ((s : ℕ) (t : List ℕ) → Then x s t → P s t)
     → (status : ℕ) (text : List ℕ) → AtFile file reads (told name) risen Then status text → P status text
 at-has {T} file reads told name x risen Then P has f g =
     by-cause file reads (told name) risen Then P f
@@ -71,11 +71,11 @@ Is status status' text text' = (status ≡ status') × (text ≡ text')
 
 abbrev ByRead : {T : Type 0} → File → (T → ℕ → List ℕ → Type 0) → Result T (ℕ × ℕ) → ℕ → List ℕ → Type 0
 ByRead file Then (Ok x) s t = Then x s t
-ByRead file Then (Err fault) s t = Is s (bad_status file) t (line_text (Bad file fault.0 fault.1))
+ByRead file Then (Err fault) s t = Is s (bad_status file) t (reply_text (Bad file fault.0 fault.1))
 
 abbrev Decided : {T : Type 0} → File → (List ℕ → Result T (ℕ × ℕ)) → List ℕ → (T → ℕ → List ℕ → Type 0) → ℕ → List ℕ → Type 0
 Decided file reads bytes Then s t =
-    ((file_limit < length bytes) × Is s (bad_status file) t (line_text (Bad file 0 0)))
+    ((file_limit < length bytes) × Is s (bad_status file) t (reply_text (Bad file 0 0)))
     ⊎ ((length bytes ≤ file_limit) × ByRead file Then (reads bytes) s t)
 
 decided : {T : Type 0} (file : File) (reads : List ℕ → Result T (ℕ × ℕ)) (bytes : List ℕ) (risen : Type 0) (Then : T → ℕ → List ℕ → Type 0) → (risen → ⊥)
@@ -84,7 +84,7 @@ decided {T} file reads bytes risen Then calm =
     by-cause file reads (Some bytes) risen Then (Decided file reads bytes Then)
     (λ here. absurd (calm here))
     (λ long. inl (long, (refl, refl)))
-    (λ row code bad. inr (bad.0, subst (λ (r : Result T (ℕ × ℕ)). ByRead file Then r (bad_status file) (line_text (Bad file row code))) (sym bad.1) (refl, refl)))
+    (λ row code bad. inr (bad.0, subst (λ (r : Result T (ℕ × ℕ)). ByRead file Then r (bad_status file) (reply_text (Bad file row code))) (sym bad.1) (refl, refl)))
     (λ x s t read then. inr (read.0, subst (λ (r : Result T (ℕ × ℕ)). ByRead file Then r s t) (sym read.1) then))
 
 one-decided : {T : Type 0} (file : File) (reads : List ℕ → Result T (ℕ × ℕ)) (bytes : List ℕ) (Then : T → ℕ → List ℕ → Type 0)

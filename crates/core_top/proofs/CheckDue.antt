@@ -3,17 +3,17 @@ use Rattle.std.proofs.Common.{◌≡◌, refl, sym, ◌∙◌, ℕ, List, Option
 use Rattle.core_book.specs.View.{CaseView}
 use Rattle.core_model.specs.declared.cert.Cert.{Cert}
 use Rattle.core_model.specs.declared.cert.Cert.TheVariants.{Closes, Cannot}
-use Rattle.core_top.specs.Answers.{line_status, line_text}
+use Rattle.core_top.specs.Answers.{reply_status, reply_text}
 use Rattle.core_top.specs.Files.{HasCase}
 use Rattle.core_top.specs.Judged.{CertWords, JudgedShows}
-use Rattle.core_top.specs.Check.{accepted_line, Accepts, CheckDue}
+use Rattle.core_top.specs.Check.{accepted_reply, Accepts, CheckDue}
 use Rattle.core_top.specs.Commands.{OneRose, no_fault}
 use Rattle.core_top.proofs.Statuses.{is_own, OwnStatus}
 use Rattle.core_top.proofs.AtFile.{Is}
 use Rattle.core_top.proofs.JudgedDue.{judged-calm, judged-own, judged-one, judged-shows}
 
 -- what is due to a certificate that passes
-pub accepted-due : (c : CaseView) (x : Cert) → Accepts c x (line_status (accepted_line x)) (line_text (accepted_line x))
+pub accepted-due : (c : CaseView) (x : Cert) → Accepts c x (reply_status (accepted_reply x)) (reply_text (accepted_reply x))
 accepted-due c (Closes calendar loss weights) = (refl, refl)
 accepted-due c (Cannot weights) = (refl, refl)
 

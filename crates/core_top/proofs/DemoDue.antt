@@ -9,9 +9,9 @@ use Rattle.core_gen.specs.Closed.{demo_view}
 use Rattle.core_cert.specs.Written.{floored}
 use Rattle.core_margin.specs.Outcomes.{MarginOutcome, Certificate, Common, Pivot, Spent}
 use Rattle.core_margin.specs.Laws.{OneMargin}
-use Rattle.core_top.specs.declared.answers.Line.TheVariants as lines
+use Rattle.core_top.specs.declared.answers.Reply.TheVariants as replies
 use Rattle.core_top.specs.Orders.{LeastVariable, preference}
-use Rattle.core_top.specs.Answers.{line_text}
+use Rattle.core_top.specs.Answers.{reply_text}
 use Rattle.core_top.specs.Margin.{default_budget}
 use Rattle.core_top.specs.Demo.{DemoWords, DemoComes, demo_answer, margin_ratio, DemoDue, closes, wide_pivot, wide_common, spent, IsRatio, DemoShows, least, pivot_leaves, cert_leaves, not_ended}
 use Rattle.core_top.proofs.Statuses.{OwnStatus}
@@ -57,9 +57,9 @@ status-of Spent = 5
 text-of : ℕ → MarginOutcome → List ℕ
 text-of n (Certificate (Closes calendar loss weights)) = demo_answer n (margin_ratio loss calendar.den)
 text-of n (Certificate (Cannot weights)) = []
-text-of n Common = line_text lines.WideCommon
-text-of n (Pivot k) = line_text (lines.WidePivot k)
-text-of n Spent = line_text (lines.Spent default_budget)
+text-of n Common = reply_text replies.WideCommon
+text-of n (Pivot k) = reply_text (replies.WidePivot k)
+text-of n Spent = reply_text (replies.Spent default_budget)
 
 record IsOf (words : DemoWords) (s : ℕ) (t : List ℕ) : Type 0 where
   outcome : MarginOutcome

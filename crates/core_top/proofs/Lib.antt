@@ -1,4 +1,4 @@
-mod Lines
+mod Replies
 mod AtFile
 mod Statuses
 mod MarginDue
@@ -8,5 +8,5 @@ mod CheckDue
 mod ReportDue
 mod DemoDue
 mod Commands
-mod Owing
+mod Guaranteed
 mod Steps

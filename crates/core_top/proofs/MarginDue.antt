@@ -16,9 +16,9 @@ use Rattle.core_lp.specs.Ranks.{variable_count}
 use Rattle.core_margin.specs.Outcomes.{MarginOutcome, Certificate, Common, Pivot, Spent}
 use Rattle.core_margin.specs.Laws.{MarginIsValid, OneMargin}
 use Rattle.core_top.specs.declared.answers.File.TheVariants as files
-use Rattle.core_top.specs.declared.answers.Line.TheVariants as lines
+use Rattle.core_top.specs.declared.answers.Reply.TheVariants as replies
 use Rattle.core_top.specs.Orders.{preference}
-use Rattle.core_top.specs.Answers.{line_text, cert_status}
+use Rattle.core_top.specs.Answers.{reply_text, cert_status}
 use Rattle.core_top.specs.Files.{HasCase}
 use Rattle.core_top.specs.Margin.{MarginWords, Comes, MarginOf, certified, wide_pivot, wide_common, spent, MarginDue, IsReadBack, MarginShows, least, none, pivot_leaves, cert_leaves, not_ended, case_unread, GoesByNumber, IsNeverSpent}
 use Rattle.core_top.specs.Commands.{OneRose, no_fault}
@@ -94,9 +94,9 @@ status-of Spent = 5
 
 text-of : MarginWords → CaseView → MarginOutcome → List ℕ
 text-of words c (Certificate x) = cert_text c x
-text-of words c Common = line_text lines.WideCommon
-text-of words c (Pivot k) = line_text (lines.WidePivot k)
-text-of words c Spent = line_text (lines.Spent words.budget)
+text-of words c Common = reply_text replies.WideCommon
+text-of words c (Pivot k) = reply_text (replies.WidePivot k)
+text-of words c Spent = reply_text (replies.Spent words.budget)
 
 record IsOf (words : MarginWords) (c : CaseView) (s : ℕ) (t : List ℕ) : Type 0 where
   outcome : MarginOutcome

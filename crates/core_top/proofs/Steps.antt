@@ -23,7 +23,7 @@ use Rattle.core_top.proofs.AtFile.{at-file, agreed, rose-before}
 
 -- what may be answered may be seen as more
 pub ends : (May May' : ℕ → List ℕ → Type 0) (stop : Stop) → ((s : ℕ) (t : List ℕ) → May s t → May' s t) → Ends May stop → Ends May' stop
-ends May May' (stops.Said line) f may = f _ _ may
+ends May May' (stops.Said reply) f may = f _ _ may
 ends May May' stops.NoMemory f may = tt
 
 pub comes : (May May' : ℕ → List ℕ → Type 0) (r : Result Answer Stop) → ((s : ℕ) (t : List ℕ) → May s t → May' s t) → ComesTo May r → ComesTo May' r

@@ -10,8 +10,8 @@ use Rattle.core_cert.specs.declared.read.CertFault.{CertFault}
 use Rattle.core_cert.specs.declared.read.CertFault.TheVariants as cert_faults
 use Rattle.core_top.specs.declared.answers.File.{File}
 use Rattle.core_top.specs.declared.answers.File.TheVariants as files
-use Rattle.core_top.specs.declared.answers.Line.{Line}
-use Rattle.core_top.specs.declared.answers.Line.TheVariants.{Usage, Unread, Bad, AcceptedCloses, AcceptedCannot, Refused, Wide, WidePivot, WideCommon, Spent}
+use Rattle.core_top.specs.declared.answers.Reply.{Reply}
+use Rattle.core_top.specs.declared.answers.Reply.TheVariants.{Usage, Unread, Bad, AcceptedCloses, AcceptedCannot, Refused, Wide, WidePivot, WideCommon, Spent}
 use Rattle.core_top.specs.declared.answers.Answer.{Answer}
 use Rattle.core_top.specs.declared.answers.Answer.TheVariants.{Said, Printed}
 use Rattle.core_top.specs.declared.answers.Due.{Due}
@@ -27,8 +27,8 @@ abbrev pub bad_status : File → ℕ
 bad_status files.Case = 3
 bad_status files.Cert = 9
 
--- the fields of a line, its text and its status
-abbrev pub fields_of : Line → Record
+-- the fields of a reply, its text and its status
+abbrev pub fields_of : Reply → Record
 fields_of Usage = codes "usage" ∷ []
 fields_of (Unread file) = codes "fault" ∷ codes "read" ∷ word_of file ∷ []
 fields_of (Bad file row code) = codes "bad" ∷ word_of file ∷ decimal row ∷ decimal code ∷ []
@@ -41,28 +41,28 @@ fields_of (WidePivot k) = codes "wide" ∷ codes "pivot" ∷ decimal k ∷ []
 fields_of WideCommon = codes "wide" ∷ codes "common" ∷ []
 fields_of (Spent budget) = codes "spent" ∷ decimal budget ∷ []
 
-abbrev pub line_text : Line → List ℕ
-line_text line = row_text (fields_of line)
+abbrev pub reply_text : Reply → List ℕ
+reply_text reply = row_text (fields_of reply)
 
-abbrev pub line_status : Line → ℕ
-line_status Usage = 2
-line_status (Unread file) = 6
-line_status (Bad file row code) = bad_status file
-line_status AcceptedCloses = 0
-line_status AcceptedCannot = 0
-line_status (Refused condition place) = 10
-line_status (Wide condition place) = 4
-line_status (WidePivot k) = 4
-line_status WideCommon = 4
-line_status (Spent budget) = 5
+abbrev pub reply_status : Reply → ℕ
+reply_status Usage = 2
+reply_status (Unread file) = 6
+reply_status (Bad file row code) = bad_status file
+reply_status AcceptedCloses = 0
+reply_status AcceptedCannot = 0
+reply_status (Refused condition place) = 10
+reply_status (Wide condition place) = 4
+reply_status (WidePivot k) = 4
+reply_status WideCommon = 4
+reply_status (Spent budget) = 5
 
 -- the status and the text of an answer
 abbrev pub answer_status : Answer → ℕ
-answer_status (Said line) = line_status line
+answer_status (Said reply) = reply_status reply
 answer_status (Printed status text) = status
 
 abbrev pub answer_text : Answer → List ℕ
-answer_text (Said line) = line_text line
+answer_text (Said reply) = reply_text reply
 answer_text (Printed status text) = text.items
 
 -- what is due has this status and this text
@@ -85,7 +85,7 @@ cert_stop cert_faults.NoMemory = stops.NoMemory
 
 -- a step ends the call with an answer that may be given, or for want of memory
 abbrev pub Ends : (ℕ → List ℕ → Type 0) → Stop → Type 0
-Ends May (stops.Said line) = May (line_status line) (line_text line)
+Ends May (stops.Said reply) = May (reply_status reply) (reply_text reply)
 Ends May stops.NoMemory = ⊤
 
 -- the call comes to an answer that may be given, or memory runs out

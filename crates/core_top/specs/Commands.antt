@@ -1,8 +1,8 @@
 -- The commands, a line each.
 use Rattle.std.specs.Prelude.{◌≡◌, ◌⊎◌, ℕ, List, [], ◌∷◌, ⊤, Option, Some, None, IsSome}
 use Rattle.std.specs.Option.{option_map, option_or}
-use Rattle.core_top.specs.declared.answers.Line.TheVariants.{Usage}
-use Rattle.core_top.specs.Answers.{line_text}
+use Rattle.core_top.specs.declared.answers.Reply.TheVariants.{Usage}
+use Rattle.core_top.specs.Answers.{reply_text}
 use Rattle.core_top.specs.Margin.{MarginWords, margin_words, MarginDue}
 use Rattle.core_top.specs.Judged.{CertWords}
 use Rattle.core_top.specs.Check.{check_words, CheckDue}
@@ -35,7 +35,7 @@ names_read (Some (Demo words)) = []
 -- name rose in the call. Where bytes are told they decide, and where none are it says what may be answered.
 abbrev pub IsDue : Option Command → (List ℕ → Option (List ℕ)) → (List ℕ → Type 0)
     → ℕ → List ℕ → Type 0
-IsDue None told rose status text = (status ≡ 2) × (text ≡ line_text Usage)
+IsDue None told rose status text = (status ≡ 2) × (text ≡ reply_text Usage)
 IsDue (Some (Margin words)) told rose status text = MarginDue words told rose status text
 IsDue (Some (Check words)) told rose status text = CheckDue words told rose status text
 IsDue (Some (Report words)) told rose status text = ReportDue words told rose status text

@@ -12,10 +12,10 @@ use Rattle.core_model.specs.Shows.{ShowsLeast}
 use Rattle.core_gen.specs.Closed.{demo_view}
 use Rattle.core_margin.specs.Outcomes.{MarginOutcome, Certificate, Common, Pivot, Spent, MarginComesTo}
 use Rattle.core_cert.specs.Written.{floored}
-use Rattle.core_top.specs.declared.answers.Line.TheVariants as lines
+use Rattle.core_top.specs.declared.answers.Reply.TheVariants as replies
 use Rattle.core_top.specs.declared.demo.Words.{Words}
 use Rattle.core_top.specs.Orders.{LeastVariable, preference}
-use Rattle.core_top.specs.Answers.{line_text}
+use Rattle.core_top.specs.Answers.{reply_text}
 use Rattle.core_top.specs.Margin.{default_budget}
 use Rattle.core_top.specs.Around.{Around, Answered}
 
@@ -40,8 +40,8 @@ demo_words (verb ∷ count ∷ []) =
 demo_words _ = None
 
 -- the words that the program makes of them
-abbrev pub demo_told : Words → DemoWords
-demo_told words = record { count = words.count }
+abbrev pub demo_words_view : Words → DemoWords
+demo_words_view words = record { count = words.count }
 
 -- the case comes to this under the rule of the least variable and with the budget where none is said
 abbrev pub DemoComes : ℕ → MarginOutcome → Type 0
@@ -66,9 +66,9 @@ pub data DemoDue (words : DemoWords) : ℕ → List ℕ → Type 0 where
       → ShowsLeast (demo_view words.count) calendar loss weights
       → DemoDue words 0 (demo_answer words.count (margin_ratio loss calendar.den))
   wide_pivot : (k : ℕ) → DemoComes words.count (Pivot k)
-      → DemoDue words 4 (line_text (lines.WidePivot k))
-  wide_common : DemoComes words.count Common → DemoDue words 4 (line_text lines.WideCommon)
-  spent : DemoComes words.count Spent → DemoDue words 5 (line_text (lines.Spent default_budget))
+      → DemoDue words 4 (reply_text (replies.WidePivot k))
+  wide_common : DemoComes words.count Common → DemoDue words 4 (reply_text replies.WideCommon)
+  spent : DemoComes words.count Spent → DemoDue words 5 (reply_text (replies.Spent default_budget))
 
 -- a fraction, which is in lowest terms, is this numerator over this denominator
 abbrev pub IsRatio : Fraction → ℤ → ℤ → Type 0
@@ -83,13 +83,13 @@ pub data DemoShows (words : DemoWords) : ℕ → List ℕ → Type 0 where
       → IsRatio margin (floored loss) calendar.den
       → DemoShows words 0 (demo_answer words.count margin)
   pivot_leaves : (k : ℕ) → DemoComes words.count (Pivot k)
-      → DemoShows words 4 (line_text (lines.WidePivot k))
-  cert_leaves : DemoComes words.count Common → DemoShows words 4 (line_text lines.WideCommon)
+      → DemoShows words 4 (reply_text (replies.WidePivot k))
+  cert_leaves : DemoComes words.count Common → DemoShows words 4 (reply_text replies.WideCommon)
   not_ended : DemoComes words.count Spent
-      → DemoShows words 5 (line_text (lines.Spent default_budget))
+      → DemoShows words 5 (reply_text (replies.Spent default_budget))
 
--- What `demo` owes. Its case can be closed and is well-formed, so the status is never 1 or 3.
-pub record DemoOwes (a : Around) (words : DemoWords) (status : ℕ) : Type 0 where
+-- What `demo` guarantees. Its case can be closed and is well-formed, so the status is never 1 or 3.
+pub record DemoGuarantees (a : Around) (words : DemoWords) (status : ℕ) : Type 0 where
   pub shows : Answered a (DemoShows words) status
   pub closes : status ≢ 1
   pub stated : status ≢ 3

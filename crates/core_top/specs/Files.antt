@@ -7,8 +7,8 @@ use Rattle.core_cert.specs.Written.{most_bytes}
 use Rattle.core_cert.specs.Stated.{cert_of_bytes}
 use Rattle.core_top.specs.declared.answers.File.{File}
 use Rattle.core_top.specs.declared.answers.File.TheVariants as files
-use Rattle.core_top.specs.declared.answers.Line.TheVariants.{Unread, Bad}
-use Rattle.core_top.specs.Answers.{bad_status, line_text}
+use Rattle.core_top.specs.declared.answers.Reply.TheVariants.{Unread, Bad}
+use Rattle.core_top.specs.Answers.{bad_status, reply_text}
 
 -- the greatest length of a file, which is that of a certificate's text
 abbrev pub file_limit : ℕ
@@ -37,9 +37,9 @@ HasCert told name c = Has (cert_of_bytes c) told name
 -- what is told of its bytes decides where it is told.
 pub data IsUnread (file : File) (told : Option (List ℕ)) (risen : Type 0) : ℕ → List ℕ → Type 0
   where
-    unread : risen → IsUnread file told risen 6 (line_text (Unread file))
+    unread : risen → IsUnread file told risen 6 (reply_text (Unread file))
     too_long : IfSome told (λ bytes. file_limit < length bytes)
-        → IsUnread file told risen (bad_status file) (line_text (Bad file 0 0))
+        → IsUnread file told risen (bad_status file) (reply_text (Bad file 0 0))
 
 -- The answer at a file: it is not read, its first fault is named, or it states something, and what is due then is the
 -- command's own part.
@@ -49,7 +49,7 @@ pub data AtFile {T : Type 0} (file : File) (reads : List ℕ → Result T (ℕ �
   not_read : (status : ℕ) (text : List ℕ) → IsUnread file told risen status text
       → AtFile file reads told risen Then status text
   faulty : (row code : ℕ) → ReadAs reads told (Err (row, code))
-      → AtFile file reads told risen Then (bad_status file) (line_text (Bad file row code))
+      → AtFile file reads told risen Then (bad_status file) (reply_text (Bad file row code))
   stated : (x : T) (status : ℕ) (text : List ℕ) → ReadAs reads told (Ok x) → Then x status text
       → AtFile file reads told risen Then status text
 

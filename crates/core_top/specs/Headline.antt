@@ -1,12 +1,12 @@
--- What the top call owes.
+-- What the top call guarantees.
 use Rattle.std.specs.Prelude.{◌≡◌, ◌↔◌, ◌⊎◌, ℕ, List, [], ◌∷◌, codes, Option, Some, None}
 use Rattle.core_io.specs.States.{ShelfState, KeepsBytes, KeepsCounts, KeepsCount, Writes}
 use Rattle.core_top.specs.Around.{Around, told, ShelfRose, SinkRose, Between, Answered}
-use Rattle.core_top.specs.Margin.{MarginWords, MarginOwes, MarginServes}
+use Rattle.core_top.specs.Margin.{MarginWords, MarginGuarantees, MarginServes}
 use Rattle.core_top.specs.Judged.{CertWords}
-use Rattle.core_top.specs.Check.{CheckOwes}
-use Rattle.core_top.specs.Report.{ReportOwes}
-use Rattle.core_top.specs.Demo.{DemoWords, DemoOwes}
+use Rattle.core_top.specs.Check.{CheckGuarantees}
+use Rattle.core_top.specs.Report.{ReportGuarantees}
+use Rattle.core_top.specs.Demo.{DemoWords, DemoGuarantees}
 use Rattle.core_top.specs.Commands.{Command, Margin, Check, Report, Demo, command_of, names_read, IsDue, AllTold, NoneRose, OneRose, no_fault}
 
 -- The answer is one that is due, and so exact at each file whose bytes are told, whatever is told of another.
@@ -32,20 +32,21 @@ pub record HasCauses (a : Around) (command : Option Command) (status : ℕ) : Ty
   pub memory : status ≡ 8 → a.sink_after ≡ a.sink_before
 
 -- The contract of the top call, a sentence a field.
-pub record Owes (a : Around) (words : List (List ℕ)) (status : ℕ) : Type 0 where
+pub record Guarantees (a : Around) (words : List (List ℕ)) (status : ℕ) : Type 0 where
   pub margin : (asked : MarginWords) → command_of words ≡ Some (Margin asked)
-      → MarginOwes a asked status
+      → MarginGuarantees a asked status
   pub serves : (asked : MarginWords) → command_of words ≡ Some (Margin asked)
       → MarginServes a asked status
   pub check : (asked : CertWords) → command_of words ≡ Some (Check asked)
-      → CheckOwes a asked status
+      → CheckGuarantees a asked status
   pub report : (asked : CertWords) → command_of words ≡ Some (Report asked)
-      → ReportOwes a asked status
+      → ReportGuarantees a asked status
   pub demo : (asked : DemoWords) → command_of words ≡ Some (Demo asked)
-      → DemoOwes a asked status
+      → DemoGuarantees a asked status
   pub exact : IsExact a (command_of words) status
   pub complete : IsComplete a (command_of words) status
   pub causes : HasCauses a (command_of words) status
+  pub untouched : names_read (command_of words) ≡ [] → a.shelf_after ≡ a.shelf_before
   pub kept : KeepsBytes a.shelf_before a.shelf_after
   pub shelf_counts : KeepsCounts a.shelf_before a.shelf_after
   pub sink_count : KeepsCount a.sink_before a.sink_after

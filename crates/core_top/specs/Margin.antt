@@ -16,11 +16,11 @@ use Rattle.core_margin.specs.Outcomes.{MarginOutcome, Certificate, Common, Pivot
 use Rattle.core_cert.specs.Written.{cert_text}
 use Rattle.core_cert.specs.Stated.{cert_of_bytes}
 use Rattle.core_top.specs.declared.answers.File.TheVariants as files
-use Rattle.core_top.specs.declared.answers.Line.TheVariants as lines
+use Rattle.core_top.specs.declared.answers.Reply.TheVariants as replies
 use Rattle.core_top.specs.declared.margin.Words.{Words}
 use Rattle.core_top.specs.Words.{is_name}
-use Rattle.core_top.specs.Orders.{RuleWord, LeastVariable, Kinds, rule_of, order_told, preference}
-use Rattle.core_top.specs.Answers.{line_text, cert_status}
+use Rattle.core_top.specs.Orders.{RuleWord, LeastVariable, Kinds, rule_of, order_view, preference}
+use Rattle.core_top.specs.Answers.{reply_text, cert_status}
 use Rattle.core_top.specs.Files.{file_limit, HasCase, AtCase}
 use Rattle.core_top.specs.Around.{Around, told, ShelfRose, Answered}
 
@@ -59,11 +59,11 @@ margin_words (verb ∷ case ∷ rest) =
 margin_words _ = None
 
 -- the words that the program makes of them
-abbrev pub margin_told : Words → MarginWords
-margin_told words = record {
+abbrev pub margin_words_view : Words → MarginWords
+margin_words_view words = record {
   case = words.case.now;
   budget = words.budget;
-  rule = order_told words.order;
+  rule = order_view words.order;
 }
 
 -- a case comes to this under the rule and with the budget of the words
@@ -76,9 +76,9 @@ pub data MarginOf (words : MarginWords) (c : CaseView) : ℕ → List ℕ → Ty
   certified : (x : Cert) → Comes words c (Certificate x) → Fits c x → IsPlainlyRefusing x
       → MarginOf words c (cert_status x) (cert_text c x)
   wide_pivot : (k : ℕ) → Comes words c (Pivot k)
-      → MarginOf words c 4 (line_text (lines.WidePivot k))
-  wide_common : Comes words c Common → MarginOf words c 4 (line_text lines.WideCommon)
-  spent : Comes words c Spent → MarginOf words c 5 (line_text (lines.Spent words.budget))
+      → MarginOf words c 4 (reply_text (replies.WidePivot k))
+  wide_common : Comes words c Common → MarginOf words c 4 (reply_text replies.WideCommon)
+  spent : Comes words c Spent → MarginOf words c 5 (reply_text (replies.Spent words.budget))
 
 abbrev pub MarginDue : MarginWords → (List ℕ → Option (List ℕ)) → (List ℕ → Type 0)
     → ℕ → List ℕ → Type 0
@@ -104,15 +104,15 @@ pub data MarginShows (rose : List ℕ → Type 0) (words : MarginWords) (c : Cas
   none : (weights : Weights) → ShowsNone c weights → IsReadBack c (Cannot weights)
       → MarginShows rose words c 1 (cert_text c (Cannot weights))
   pivot_leaves : (k : ℕ) → Comes words c (Pivot k)
-      → MarginShows rose words c 4 (line_text (lines.WidePivot k))
-  cert_leaves : Comes words c Common → MarginShows rose words c 4 (line_text lines.WideCommon)
+      → MarginShows rose words c 4 (reply_text (replies.WidePivot k))
+  cert_leaves : Comes words c Common → MarginShows rose words c 4 (reply_text replies.WideCommon)
   not_ended : Comes words c Spent
-      → MarginShows rose words c 5 (line_text (lines.Spent words.budget))
-  case_unread : rose words.case → MarginShows rose words c 6 (line_text (lines.Unread files.Case))
+      → MarginShows rose words c 5 (reply_text (replies.Spent words.budget))
+  case_unread : rose words.case → MarginShows rose words c 6 (reply_text (replies.Unread files.Case))
 
 -- The main sentence.
-abbrev pub MarginOwes : Around → MarginWords → ℕ → Type 0
-MarginOwes a words status = (c : CaseView) → HasCase (told a) words.case c
+abbrev pub MarginGuarantees : Around → MarginWords → ℕ → Type 0
+MarginGuarantees a words status = (c : CaseView) → HasCase (told a) words.case c
     → Answered a (MarginShows (ShelfRose a) words c) status
 
 -- the rule of the least variable, also as the order of the kinds in which the variables are numbered

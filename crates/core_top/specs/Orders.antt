@@ -33,11 +33,11 @@ rule_of word =
     else None
 
 -- the rule that the program makes of it
-abbrev pub order_told : Order → RuleWord
-order_told order.LeastVariable = LeastVariable
-order_told order.LeastValue = LeastValue
-order_told order.LastRow = LastRow
-order_told (order.Kinds letters) = Kinds letters
+abbrev pub order_view : Order → RuleWord
+order_view order.LeastVariable = LeastVariable
+order_view order.LeastValue = LeastValue
+order_view order.LastRow = LastRow
+order_view (order.Kinds letters) = Kinds letters
 
 -- which candidate the rule prefers in the run of a case
 abbrev pub preference : CaseView → RuleWord → Preference

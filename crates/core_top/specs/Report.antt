@@ -7,7 +7,7 @@ use Rattle.core_book.specs.View.{CaseView}
 use Rattle.core_model.specs.declared.cert.Cert.{Cert}
 use Rattle.core_report.specs.declared.fault.ReportFault.TheVariants.{TooWide}
 use Rattle.core_report.specs.Report.{IsReport, StopsReport}
-use Rattle.core_top.specs.Judged.{CertWords, cert_words, AtJudged, JudgedOwes}
+use Rattle.core_top.specs.Judged.{CertWords, cert_words, AtJudged, JudgedGuarantees}
 use Rattle.core_top.specs.Around.{Around}
 
 abbrev pub report_words : List (List ℕ) → Option CertWords
@@ -29,8 +29,8 @@ abbrev pub ReportDue : CertWords → (List ℕ → Option (List ℕ)) → (List 
     → ℕ → List ℕ → Type 0
 ReportDue words told rose = AtJudged told rose words.case words.cert Reports
 
--- What `report` owes on every well-formed case: the report of a certificate that `check` accepts, which shows what it
+-- What `report` guarantees on every well-formed case: the report of a certificate that `check` accepts, which shows what it
 -- states, whoever made it. Of a calendar its loss is the worst loss in lowest terms, and its ledger the cash of the
 -- first scenario that has this loss.
-abbrev pub ReportOwes : Around → CertWords → ℕ → Type 0
-ReportOwes a words = JudgedOwes a words Reports
+abbrev pub ReportGuarantees : Around → CertWords → ℕ → Type 0
+ReportGuarantees a words = JudgedGuarantees a words Reports

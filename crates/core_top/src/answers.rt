@@ -1,6 +1,6 @@
 // The answers of a call, and the text of each.
 ghost use Rattle.std.specs.Prelude.{◌≡◌, ◌∷◌, [], ◌++◌, decimal, IfOk};
-ghost use Rattle.core_top.specs.Answers.{answer_status, answer_text, cert_status, fields_of, line_status, line_text, word_of, Says};
+ghost use Rattle.core_top.specs.Answers.{answer_status, answer_text, cert_status, fields_of, reply_status, reply_text, word_of, Says};
 
 use core_model::Cert;
 use core_rows::{Fields, put_row};
@@ -25,9 +25,9 @@ impl File {
     }
 }
 
-/// An answer of one line.
+/// An answer of one printed line.
 #[derive(Clone, Copy, Debug)]
-pub(crate) enum Line {
+pub(crate) enum Reply {
     /// 2 `usage`.
     Usage,
     /// 6 `fault,read,FILE`.
@@ -50,25 +50,25 @@ pub(crate) enum Line {
     Spent { budget: u64 },
 }
 
-impl Line {
+impl Reply {
     fn status(self) -> u8
-        ensures { result ≡ line_status self }
+        ensures { result ≡ reply_status self }
     {
         match self {
-            Line::AcceptedCloses | Line::AcceptedCannot => 0,
-            Line::Usage => 2,
-            Line::Bad {
+            Reply::AcceptedCloses | Reply::AcceptedCannot => 0,
+            Reply::Usage => 2,
+            Reply::Bad {
                 file: File::Case,
                 ..
             } => 3,
-            Line::Wide { .. } | Line::WidePivot { .. } | Line::WideCommon => 4,
-            Line::Spent { .. } => 5,
-            Line::Unread(_) => 6,
-            Line::Bad {
+            Reply::Wide { .. } | Reply::WidePivot { .. } | Reply::WideCommon => 4,
+            Reply::Spent { .. } => 5,
+            Reply::Unread(_) => 6,
+            Reply::Bad {
                 file: File::Cert,
                 ..
             } => 9,
-            Line::Refused { .. } => 10,
+            Reply::Refused { .. } => 10,
         }
     }
 
@@ -76,29 +76,29 @@ impl Line {
         ensures { IfOk result (λ fields. fields ≡ fields_of self) }
     {
         match self {
-            Line::Usage => one(alloc, b"usage"),
-            Line::Unread(file) => {
+            Reply::Usage => one(alloc, b"usage"),
+            Reply::Unread(file) => {
                 let mut fields = pair(alloc, b"fault", b"read")?;
                 fields.push(file.word())?;
                 Ok(fields)
             }
-            Line::Bad { file, row, code } => {
+            Reply::Bad { file, row, code } => {
                 let fields = pair(alloc, b"bad", file.word())?;
                 with_numbers(fields, row, u32::from(code))
             }
-            Line::AcceptedCloses => pair(alloc, b"accepted", b"closes"),
-            Line::AcceptedCannot => pair(alloc, b"accepted", b"cannot"),
-            Line::Refused { condition, place } => {
+            Reply::AcceptedCloses => pair(alloc, b"accepted", b"closes"),
+            Reply::AcceptedCannot => pair(alloc, b"accepted", b"cannot"),
+            Reply::Refused { condition, place } => {
                 let fields = one(alloc, b"refused")?;
                 with_numbers(fields, u32::from(condition), place)
             }
-            Line::Wide { condition, place } => {
+            Reply::Wide { condition, place } => {
                 let fields = pair(alloc, b"wide", b"check")?;
                 with_numbers(fields, u32::from(condition), place)
             }
-            Line::WidePivot { pivot } => with_number(pair(alloc, b"wide", b"pivot")?, pivot),
-            Line::WideCommon => pair(alloc, b"wide", b"common"),
-            Line::Spent { budget } => with_number(one(alloc, b"spent")?, budget),
+            Reply::WidePivot { pivot } => with_number(pair(alloc, b"wide", b"pivot")?, pivot),
+            Reply::WideCommon => pair(alloc, b"wide", b"common"),
+            Reply::Spent { budget } => with_number(one(alloc, b"spent")?, budget),
         }
     }
 }
@@ -141,10 +141,10 @@ fn with_numbers(fields: Fields, first: u32, second: u32) -> Result<Fields, Alloc
     Ok(fields)
 }
 
-/// What a call answers: a line, or a text that its command has made.
+/// What a call answers: a reply, or a text that its command has made.
 #[derive(Drop)]
 pub(crate) enum Answer {
-    Said(Line),
+    Said(Reply),
     Printed { status: u8, text: Vec<u8> },
 }
 
@@ -155,15 +155,15 @@ pub(crate) struct Due {
     pub(crate) text: Vec<u8>,
 }
 
-/// A line as the whole output.
-pub(crate) fn said(alloc: Global, line: Line) -> Result<Due, AllocError>
-    ensures { IfOk result (Says (line_status line) (line_text line)) }
+/// A reply as the whole output.
+pub(crate) fn said(alloc: Global, reply: Reply) -> Result<Due, AllocError>
+    ensures { IfOk result (Says (reply_status reply) (reply_text reply)) }
 {
-    let fields = line.fields(alloc)?;
+    let fields = reply.fields(alloc)?;
     let mut text = Vec::new(alloc);
     put_row(alloc, &mut text, &fields)?;
     Ok(Due {
-        status: line.status(),
+        status: reply.status(),
         text,
     })
 }
@@ -173,7 +173,7 @@ pub(crate) fn output(alloc: Global, answer: Answer) -> Result<Due, AllocError>
     ensures { IfOk result (Says (answer_status answer) (answer_text answer)) }
 {
     match answer {
-        Answer::Said(line) => said(alloc, line),
+        Answer::Said(reply) => said(alloc, reply),
         Answer::Printed { status, text } => Ok(Due { status, text }),
     }
 }

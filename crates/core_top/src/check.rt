@@ -3,30 +3,30 @@ ghost use Rattle.std.specs.Prelude.{◌≡◌};
 ghost use Rattle.core_io.specs.States.{KeepsBytes, KeepsCounts};
 ghost use Rattle.core_top.specs.Answers.{ComesTo};
 ghost use Rattle.core_top.specs.Around.{Between};
-ghost use Rattle.core_top.specs.Judged.{cert_told};
-ghost use Rattle.core_top.specs.Check.{accepted_line, CheckDue};
+ghost use Rattle.core_top.specs.Judged.{cert_words_view};
+ghost use Rattle.core_top.specs.Check.{accepted_reply, CheckDue};
 
-use crate::answers::{Answer, Line};
+use crate::answers::{Answer, Reply};
 use crate::judged::{Words, accepted_under};
 use crate::stop::Stop;
 use core_io::Shelf;
 use core_model::Cert;
 use std::alloc::Global;
 
-/// The line of a certificate that is accepted.
-fn accepted(cert: &Cert) -> Line
-    ensures { result ≡ accepted_line cert.now }
+/// The reply to a certificate that is accepted.
+fn accepted(cert: &Cert) -> Reply
+    ensures { result ≡ accepted_reply cert.now }
 {
     match cert {
-        Cert::Closes { .. } => Line::AcceptedCloses,
-        Cert::Cannot { .. } => Line::AcceptedCannot,
+        Cert::Closes { .. } => Reply::AcceptedCloses,
+        Cert::Cannot { .. } => Reply::AcceptedCannot,
     }
 }
 
 /// Reads the case, then the certificate, judges it and says that it is accepted.
 pub(crate) fn answer<S: Shelf>(alloc: Global, shelf: &mut S, asked: &Words) -> Result<Answer, Stop>
     ensures due { ComesTo (Between (S.state shelf.old) (S.state shelf.new)
-        (CheckDue (cert_told asked.now))) result }
+        (CheckDue (cert_words_view asked.now))) result }
     ensures kept { KeepsBytes (S.state shelf.old) (S.state shelf.new) }
     ensures counts { KeepsCounts (S.state shelf.old) (S.state shelf.new) }
 {

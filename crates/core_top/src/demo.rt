@@ -5,9 +5,9 @@ ghost use Rattle.core_gen.specs.Closed.{demo_view};
 ghost use Rattle.core_top.specs.declared.stop.Stop.TheVariants.{NoMemory};
 ghost use Rattle.core_top.specs.Words.{words_of};
 ghost use Rattle.core_top.specs.Answers.{ComesTo};
-ghost use Rattle.core_top.specs.Demo.{count_of, demo_answer, demo_told, demo_words, margin_ratio, DemoDue};
+ghost use Rattle.core_top.specs.Demo.{count_of, demo_answer, demo_words_view, demo_words, margin_ratio, DemoDue};
 
-use crate::answers::{Answer, Line, one};
+use crate::answers::{Answer, Reply, one};
 use crate::margin::BUDGET;
 use crate::orders::{Order, margin_by};
 use crate::stop::Stop;
@@ -41,7 +41,7 @@ fn count_of(word: &str) -> Option<u8>
 pub(crate) fn words_of(words: &[String]) -> Option<Words>
     ensures none { IfNone result (demo_words (words_of words.now) ≡ None) }
     ensures some { IfSome result (λ asked. demo_words (words_of words.now)
-        ≡ Some (demo_told asked)) }
+        ≡ Some (demo_words_view asked)) }
     ensures least { IfSome result (λ asked. 1 ≤ asked.count) }
     ensures most { IfSome result (λ asked. asked.count ≤ 32) }
 {
@@ -85,7 +85,7 @@ fn text_of(alloc: Global, count: u8, loss: i128, den: i128) -> Result<Vec<u8>, A
 /// The answer to the demo case: its margin, or why it has none.
 fn margin_of(alloc: Global, case: &Case, asked: &Words) -> Result<Answer, Stop>
     requires { case.now ≡ demo_view asked.now.count }
-    ensures { ComesTo (DemoDue (demo_told asked.now)) result }
+    ensures { ComesTo (DemoDue (demo_words_view asked.now)) result }
 {
     demo_case_law();
     match margin_by(alloc, case, Order::LeastVariable, BUDGET) {
@@ -94,9 +94,9 @@ fn margin_of(alloc: Global, case: &Case, asked: &Words) -> Result<Answer, Stop>
             Ok(Answer::Printed { status: 0, text })
         }
         Ok(Cert::Cannot { .. }) => unreachable!(),
-        Err(MarginFault::Pivot { pivot }) => Ok(Answer::Said(Line::WidePivot { pivot })),
-        Err(MarginFault::Common) => Ok(Answer::Said(Line::WideCommon)),
-        Err(MarginFault::Spent { .. }) => Ok(Answer::Said(Line::Spent { budget: BUDGET })),
+        Err(MarginFault::Pivot { pivot }) => Ok(Answer::Said(Reply::WidePivot { pivot })),
+        Err(MarginFault::Common) => Ok(Answer::Said(Reply::WideCommon)),
+        Err(MarginFault::Spent { .. }) => Ok(Answer::Said(Reply::Spent { budget: BUDGET })),
         Err(MarginFault::NoMemory) => Err(Stop::NoMemory),
     }
 }
@@ -105,7 +105,7 @@ fn margin_of(alloc: Global, case: &Case, asked: &Words) -> Result<Answer, Stop>
 pub(crate) fn answer(alloc: Global, asked: &Words) -> Result<Answer, Stop>
     requires least { 1 ≤ asked.now.count }
     requires most { asked.now.count ≤ 32 }
-    ensures { ComesTo (DemoDue (demo_told asked.now)) result }
+    ensures { ComesTo (DemoDue (demo_words_view asked.now)) result }
 {
     let case = case_of(alloc, asked)?;
     margin_of(alloc, &case, asked)

@@ -1,4 +1,4 @@
-// The files of a call: what they state under their names, or the line where they state nothing.
+// The files of a call: what they state under their names, or the reply where they state nothing.
 ghost use Rattle.std.specs.Prelude.{◌≡◌, ◌≤◌, Ok, IfOk, IfErr, IfSome, length};
 ghost use Rattle.core_io.specs.States.{KeepsBytes, KeepsCounts, ReadFailed};
 ghost use Rattle.core_case.specs.Stated.{case_of_bytes};
@@ -8,7 +8,7 @@ ghost use Rattle.core_top.specs.Answers.{Ends};
 ghost use Rattle.core_top.specs.Around.{Between};
 ghost use Rattle.core_top.specs.Files.{file_limit, AtCase, AtCert, IsUnread, Nothing, ReadAs};
 
-use crate::answers::{File, Line};
+use crate::answers::{File, Reply};
 use crate::stop::Stop;
 use core_case::{Case, CaseFault, read_case};
 use core_cert::{CertFault, read_cert};
@@ -36,8 +36,8 @@ fn bytes_under<S: Shelf>(
 {
     match read_all(alloc, shelf, name, FILE_LIMIT) {
         Ok(bytes) => Ok(bytes),
-        Err(ReadAll::Fault) => Err(Stop::Said(Line::Unread(file))),
-        Err(ReadAll::Long) => Err(Stop::Said(Line::Bad {
+        Err(ReadAll::Fault) => Err(Stop::Said(Reply::Unread(file))),
+        Err(ReadAll::Long) => Err(Stop::Said(Reply::Bad {
             file,
             row: 0,
             code: 0,
@@ -54,7 +54,7 @@ impl From<CaseFault> for Stop {
 
     fn from(fault: CaseFault) -> Stop {
         match fault {
-            CaseFault::Bad { row, code } => Stop::Said(Line::Bad {
+            CaseFault::Bad { row, code } => Stop::Said(Reply::Bad {
                 file: File::Case,
                 row,
                 code,
@@ -72,7 +72,7 @@ impl From<CertFault> for Stop {
 
     fn from(fault: CertFault) -> Stop {
         match fault {
-            CertFault::Bad { row, code } => Stop::Said(Line::Bad {
+            CertFault::Bad { row, code } => Stop::Said(Reply::Bad {
                 file: File::Cert,
                 row,
                 code,

@@ -10,9 +10,9 @@ ghost use Rattle.core_top.specs.Words.{words_of};
 ghost use Rattle.core_top.specs.Answers.{Ends};
 ghost use Rattle.core_top.specs.Around.{Between};
 ghost use Rattle.core_top.specs.Files.{Nothing, ReadAs};
-ghost use Rattle.core_top.specs.Judged.{cert_words, cert_told, AtJudged, Judged};
+ghost use Rattle.core_top.specs.Judged.{cert_words, cert_words_view, AtJudged, Judged};
 
-use crate::answers::Line;
+use crate::answers::Reply;
 use crate::files::{case_under, cert_under};
 use crate::stop::Stop;
 use core_case::Case;
@@ -32,7 +32,7 @@ pub(crate) struct Words<'a> {
 pub(crate) fn words_of<'a>(command: &str, words: &'a [String]) -> Option<Words<'a>>
     ensures none { IfNone result (cert_words command.now (words_of words.now) ≡ None) }
     ensures some { IfSome result (λ asked. cert_words command.now (words_of words.now)
-        ≡ Some (cert_told asked)) }
+        ≡ Some (cert_words_view asked)) }
 {
     match words {
         [verb, case, cert] if verb.as_str() == command && !case.is_empty() && !cert.is_empty() => {
@@ -62,10 +62,10 @@ fn judge(alloc: Global, case: &Case, cert: &Cert) -> Result<(), Stop>
     match check(alloc, case, cert) {
         Ok(()) => Ok(()),
         Err(CheckFault::No { condition, place }) => {
-            Err(Stop::Said(Line::Refused { condition, place }))
+            Err(Stop::Said(Reply::Refused { condition, place }))
         }
         Err(CheckFault::TooWide { condition, place }) => {
-            Err(Stop::Said(Line::Wide { condition, place }))
+            Err(Stop::Said(Reply::Wide { condition, place }))
         }
         Err(CheckFault::NoMemory) => Err(Stop::NoMemory),
     }

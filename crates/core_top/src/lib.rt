@@ -1,15 +1,15 @@
 //! The top call: all that the program does, over a shelf and a sink.
 #![tactic(auto)]
 
-ghost use Rattle.std.specs.Prelude.{IfOk};
+ghost use Rattle.std.specs.Prelude.{◌≡◌, [], IfOk};
 ghost use Rattle.core_io.specs.States.{KeepsBytes, KeepsCounts};
 ghost use Rattle.core_top.specs.Words.{words_of};
 ghost use Rattle.core_top.specs.Answers.{ComesTo};
 ghost use Rattle.core_top.specs.Around.{Between, around};
-ghost use Rattle.core_top.specs.Commands.{command_of, IsDue};
-ghost use Rattle.core_top.specs.Headline.{OneAnswerIsDue, HouseOrderIsDue, Owes};
+ghost use Rattle.core_top.specs.Commands.{command_of, names_read, IsDue};
+ghost use Rattle.core_top.specs.Headline.{OneAnswerIsDue, HouseOrderIsDue, Guarantees};
 
-use answers::{Answer, Due, Line};
+use answers::{Answer, Due, Reply};
 use core_io::{Failed, Shelf, Sink, write_all};
 use core_margin::{order_laws, outcome_law};
 use core_report::report_law;
@@ -32,6 +32,8 @@ fn answer<S: Shelf>(alloc: Global, words: &[String], shelf: &mut S) -> Result<An
         (IsDue (command_of (words_of words.now)))) result }
     ensures kept { KeepsBytes (S.state shelf.old) (S.state shelf.new) }
     ensures counts { KeepsCounts (S.state shelf.old) (S.state shelf.new) }
+    ensures untouched { names_read (command_of (words_of words.now)) ≡ []
+        → S.state shelf.new ≡ S.state shelf.old }
 {
     if let Some(asked) = margin::words_of(words) {
         margin::answer(alloc, shelf, &asked)
@@ -42,7 +44,7 @@ fn answer<S: Shelf>(alloc: Global, words: &[String], shelf: &mut S) -> Result<An
     } else if let Some(asked) = demo::words_of(words) {
         demo::answer(alloc, &asked)
     } else {
-        Ok(Answer::Said(Line::Usage))
+        Ok(Answer::Said(Reply::Usage))
     }
 }
 
@@ -52,10 +54,12 @@ fn due<S: Shelf>(alloc: Global, words: &[String], shelf: &mut S) -> Result<Due, 
         (IsDue (command_of (words_of words.now))) due.status due.text.items) }
     ensures kept { KeepsBytes (S.state shelf.old) (S.state shelf.new) }
     ensures counts { KeepsCounts (S.state shelf.old) (S.state shelf.new) }
+    ensures untouched { names_read (command_of (words_of words.now)) ≡ []
+        → S.state shelf.new ≡ S.state shelf.old }
 {
     match answer(alloc, words, shelf) {
         Ok(answer) => answers::output(alloc, answer),
-        Err(Stop::Said(line)) => answers::said(alloc, line),
+        Err(Stop::Said(reply)) => answers::said(alloc, reply),
         Err(Stop::NoMemory) => Err(AllocError),
     }
 }
@@ -83,7 +87,7 @@ fn due<S: Shelf>(alloc: Global, words: &[String], shelf: &mut S) -> Result<Due, 
 /// then the work is done. The output is built first and then written to the sink (7). Where memory runs out the answer
 /// is 8, and the sink is as it was.
 ///
-/// What it owes is a record with a field for each sentence. `margin`: for every case that is read, under every rule,
+/// What it guarantees is a record with a field for each sentence. `margin`: for every case that is read, under every rule,
 /// an admissible calendar whose worst loss no admissible calendar undercuts, with its loss and weights that show it,
 /// or weights showing that no calendar is admissible; the text is read as this certificate, and no place of its check
 /// fails; or why there is none. `serves`: under the rule of the least variable (Bland 1977) a budget of at least 2 to
@@ -92,15 +96,16 @@ fn due<S: Shelf>(alloc: Global, words: &[String], shelf: &mut S) -> Result<Due, 
 /// a calendar its loss is the worst loss in lowest terms, and its ledger the cash of the first worst scenario. `demo`: an
 /// admissible calendar of the demo case whose worst loss no admissible calendar undercuts, and this loss, floored at
 /// nought, in lowest terms; or why there is none, and never 1 or 3. `exact`: each answer is one that is due. `complete`:
-/// where nothing failed it is due by the words and the bytes alone. `causes`: what a status says by itself. `kept`,
-/// `shelf_counts`, `sink_count`: no bytes on the shelf change, and no count falls.
+/// where nothing failed it is due by the words and the bytes alone. `causes`: what a status says by itself. `untouched`:
+/// where the words name no file, the shelf is as it was, its counts too. `kept`, `shelf_counts`, `sink_count`: no bytes
+/// on the shelf change, and no count falls.
 pub fn core_call<S: Shelf, K: Sink>(
     alloc: Global,
     words: &Vec<String>,
     shelf: &mut S,
     sink: &mut K,
 ) -> u8
-    ensures { Owes (around (S.state shelf.old) (S.state shelf.new) (K.state sink.old)
+    ensures { Guarantees (around (S.state shelf.old) (S.state shelf.new) (K.state sink.old)
         (K.state sink.new)) (words_of words.now.items) result }
 {
     margin::margin_laws();

@@ -3,12 +3,12 @@ ghost use Rattle.std.specs.Prelude.{◌≡◌, None, Some, IfNone, IfSome};
 ghost use Rattle.core_io.specs.States.{KeepsBytes, KeepsCounts};
 ghost use Rattle.core_margin.specs.Laws.{MarginIsValid};
 ghost use Rattle.core_top.specs.Words.{words_of};
-ghost use Rattle.core_top.specs.Orders.{order_told};
+ghost use Rattle.core_top.specs.Orders.{order_view};
 ghost use Rattle.core_top.specs.Answers.{ComesTo};
 ghost use Rattle.core_top.specs.Around.{Between};
-ghost use Rattle.core_top.specs.Margin.{budget_of, limits_of, margin_words, margin_told, MarginDue, MarginOf, IsNeverSpent};
+ghost use Rattle.core_top.specs.Margin.{budget_of, limits_of, margin_words, margin_words_view, MarginDue, MarginOf, IsNeverSpent};
 
-use crate::answers::{Answer, Line, cert_status};
+use crate::answers::{Answer, Reply, cert_status};
 use crate::files::case_under;
 use crate::orders::{Order, margin_by, order_of};
 use crate::stop::Stop;
@@ -43,7 +43,7 @@ fn budget_of(word: &str) -> Option<u64>
 fn limits_of(words: &[String]) -> Option<(u64, Order)>
     ensures none { IfNone result (limits_of (words_of words.now) ≡ None) }
     ensures some { IfSome result (λ limits. limits_of (words_of words.now)
-        ≡ Some (limits.0, order_told limits.1)) }
+        ≡ Some (limits.0, order_view limits.1)) }
 {
     match words {
         [] => Some((BUDGET, Order::LeastVariable)),
@@ -57,7 +57,7 @@ fn limits_of(words: &[String]) -> Option<(u64, Order)>
 pub(crate) fn words_of<'a>(words: &'a [String]) -> Option<Words<'a>>
     ensures none { IfNone result (margin_words (words_of words.now) ≡ None) }
     ensures some { IfSome result (λ asked. margin_words (words_of words.now)
-        ≡ Some (margin_told asked)) }
+        ≡ Some (margin_words_view asked)) }
 {
     match words {
         [verb, case, rest @ ..] if verb.as_str() == "margin" && !case.is_empty() => {
@@ -74,7 +74,7 @@ pub(crate) fn words_of<'a>(words: &'a [String]) -> Option<Words<'a>>
 
 /// The answer to a case: the text of its certificate, or why it has none.
 fn margin_of(alloc: Global, case: &Case, asked: &Words) -> Result<Answer, Stop>
-    ensures { ComesTo (MarginOf (margin_told asked.now) case.now) result }
+    ensures { ComesTo (MarginOf (margin_words_view asked.now) case.now) result }
 {
     match margin_by(alloc, case, asked.order, asked.budget) {
         Ok(cert) => {
@@ -84,11 +84,11 @@ fn margin_of(alloc: Global, case: &Case, asked: &Words) -> Result<Answer, Stop>
                 text,
             })
         }
-        Err(MarginFault::Pivot { pivot }) => Ok(Answer::Said(Line::WidePivot { pivot })),
-        Err(MarginFault::Common) => Ok(Answer::Said(Line::WideCommon)),
+        Err(MarginFault::Pivot { pivot }) => Ok(Answer::Said(Reply::WidePivot { pivot })),
+        Err(MarginFault::Common) => Ok(Answer::Said(Reply::WideCommon)),
         Err(MarginFault::Spent { .. }) => {
             let budget = asked.budget;
-            Ok(Answer::Said(Line::Spent { budget }))
+            Ok(Answer::Said(Reply::Spent { budget }))
         }
         Err(MarginFault::NoMemory) => Err(Stop::NoMemory),
     }
@@ -97,7 +97,7 @@ fn margin_of(alloc: Global, case: &Case, asked: &Words) -> Result<Answer, Stop>
 /// Reads the case and answers its margin.
 pub(crate) fn answer<S: Shelf>(alloc: Global, shelf: &mut S, asked: &Words) -> Result<Answer, Stop>
     ensures due { ComesTo (Between (S.state shelf.old) (S.state shelf.new)
-        (MarginDue (margin_told asked.now))) result }
+        (MarginDue (margin_words_view asked.now))) result }
     ensures kept { KeepsBytes (S.state shelf.old) (S.state shelf.new) }
     ensures counts { KeepsCounts (S.state shelf.old) (S.state shelf.new) }
 {

@@ -10,7 +10,7 @@ ghost use Rattle.core_model.specs.Shows.{Shows};
 ghost use Rattle.core_lp.specs.Ranks.{variable_count};
 ghost use Rattle.core_margin.specs.Answers.{outcome_of};
 ghost use Rattle.core_margin.specs.Outcomes.{MarginComesTo};
-ghost use Rattle.core_top.specs.Orders.{is_order, rule_of, order_told, preference};
+ghost use Rattle.core_top.specs.Orders.{is_order, rule_of, order_view, preference};
 ghost use Rattle.core_top.specs.Orders.{LeastVariable, LeastValue, LastRow, Kinds};
 
 use core_case::Case;
@@ -55,7 +55,7 @@ fn kinds_of(word: &[u8]) -> Option<[u8; 6]>
 /// once, in the order in which their kinds leave. None for any other word.
 pub(crate) fn order_of(word: &str) -> Option<Order>
     ensures none { IfNone result (rule_of word.now ≡ None) }
-    ensures some { IfSome result (λ order. rule_of word.now ≡ Some (order_told order)) }
+    ensures some { IfSome result (λ order. rule_of word.now ≡ Some (order_view order)) }
 {
     match word {
         "0" => Some(Order::LeastVariable),
@@ -152,9 +152,9 @@ pub(crate) fn margin_by(
     budget: u64,
 ) -> Result<Cert, MarginFault>
     ensures answer { IfSome (outcome_of result)
-        (MarginComesTo case.now (preference case.now (order_told order)) budget) }
+        (MarginComesTo case.now (preference case.now (order_view order)) budget) }
     ensures spent { (b : _) → result ≡ Err (MarginFault.Spent b) → b ≡ budget }
-    ensures serves { order_told order ≡ LeastVariable → 2 ^ variable_count case.now ≤ budget
+    ensures serves { order_view order ≡ LeastVariable → 2 ^ variable_count case.now ≤ budget
         → (b : _) → result ≢ Err (MarginFault.Spent b) }
     ensures shows { IfOk result (Shows case.now) }
     ensures valid { IfOk result (IsValid case.now) }

@@ -7,7 +7,7 @@ ghost use Rattle.core_model.specs.Fits.{Fits};
 ghost use Rattle.core_model.specs.Shows.{Shows};
 ghost use Rattle.core_top.specs.Answers.{ComesTo};
 ghost use Rattle.core_top.specs.Around.{Between};
-ghost use Rattle.core_top.specs.Judged.{cert_told};
+ghost use Rattle.core_top.specs.Judged.{cert_words_view};
 ghost use Rattle.core_top.specs.Report.{ReportDue, Reports};
 
 use crate::answers::{Answer, pair, with_number};
@@ -53,7 +53,7 @@ fn reported(alloc: Global, case: &Case, cert: &Cert) -> Result<Answer, Stop>
 /// Reads the case, then the certificate, judges it and makes its report.
 pub(crate) fn answer<S: Shelf>(alloc: Global, shelf: &mut S, asked: &Words) -> Result<Answer, Stop>
     ensures due { ComesTo (Between (S.state shelf.old) (S.state shelf.new)
-        (ReportDue (cert_told asked.now))) result }
+        (ReportDue (cert_words_view asked.now))) result }
     ensures kept { KeepsBytes (S.state shelf.old) (S.state shelf.new) }
     ensures counts { KeepsCounts (S.state shelf.old) (S.state shelf.new) }
 {

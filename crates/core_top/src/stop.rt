@@ -1,12 +1,12 @@
 // Why a call ends before its work is done.
-use crate::answers::Line;
+use crate::answers::Reply;
 use std::alloc::AllocError;
 
 /// Why a step goes no further.
 #[derive(Clone, Copy, Debug)]
 pub(crate) enum Stop {
-    /// This line is due.
-    Said(Line),
+    /// This reply is due.
+    Said(Reply),
     /// Memory ran out.
     NoMemory,
 }

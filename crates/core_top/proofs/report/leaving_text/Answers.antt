@@ -1,4 +1,4 @@
-use Rattle.core_top.proofs.Lines.{leaving-plain}
+use Rattle.core_top.proofs.Replies.{leaving-plain}
 use Rattle.core_top.proofs.report.leaving_text.Goals as goal
 
 pub put_row-requires : goal.put_row-requires

@@ -1,5 +1,5 @@
 -- Every sentence of the top call follows from the answer that is due and from what the shelf and the sink keep.
-use Rattle.std.proofs.Common.{◌≡◌, ◌≢◌, refl, sym, subst, ℕ, ◌⊎◌, inl, inr, List, Option, None}
+use Rattle.std.proofs.Common.{◌≡◌, ◌≢◌, refl, sym, subst, ℕ, ◌⊎◌, inl, inr, List, [], Option, None}
 use Rattle.core_io.specs.States.{KeepsBytes, KeepsCounts, KeepsCount}
 use Rattle.core_margin.specs.Laws.{MarginIsValid}
 use Rattle.core_top.specs.Around.{Around, told, ShelfRose, Answered, written, cut, unanswered}
@@ -7,9 +7,9 @@ use Rattle.core_top.specs.Margin.{MarginShows, IsNeverSpent}
 use Rattle.core_top.specs.Judged.{JudgedShows}
 use Rattle.core_top.specs.Check.{Accepts}
 use Rattle.core_top.specs.Report.{Reports}
-use Rattle.core_top.specs.Demo.{DemoDue, DemoWords, DemoOwes}
+use Rattle.core_top.specs.Demo.{DemoDue, DemoWords, DemoGuarantees}
 use Rattle.core_top.specs.Commands.{Command, command_of, names_read, IsDue}
-use Rattle.core_top.specs.Headline.{IsExact, IsComplete, HasCauses, Owes}
+use Rattle.core_top.specs.Headline.{IsExact, IsComplete, HasCauses, Guarantees}
 use Rattle.core_top.proofs.Statuses.{OwnStatus, never-2, never-7, never-8, read-6}
 use Rattle.core_top.proofs.MarginDue.{margin-shows, margin-serves}
 use Rattle.core_top.proofs.CheckDue.{check-shows}
@@ -53,16 +53,16 @@ never a May n status seven eight f (written s t may writes) = f s t may
 never a May n status seven eight f (cut s t may risen part) = λ e. seven (sym e)
 never a May n status seven eight f (unanswered same) = λ e. eight (sym e)
 
-demo-owes : (a : Around) (asked : DemoWords) (status : ℕ) → Answered a (DemoDue asked) status → DemoOwes a asked status
-demo-owes a asked status exact = record {
+demo-guarantees : (a : Around) (asked : DemoWords) (status : ℕ) → Answered a (DemoDue asked) status → DemoGuarantees a asked status
+demo-guarantees a asked status exact = record {
   shows = answered a (DemoDue asked) _ status (demo-shows asked) exact;
   closes = never a (DemoDue asked) 1 status (λ e. absurd (cc)) (λ e. absurd (cc)) (λ s t due. (demo-never asked s t due).0) exact;
   stated = never a (DemoDue asked) 3 status (λ e. absurd (cc)) (λ e. absurd (cc)) (λ s t due. (demo-never asked s t due).1) exact;
 }
 
-pub owing : MarginIsValid → IsNeverSpent → (a : Around) (words : List (List ℕ)) (status : ℕ) → IsExact a (command_of words) status → KeepsBytes a.shelf_before a.shelf_after → KeepsCounts a.shelf_before a.shelf_after
-    → KeepsCount a.sink_before a.sink_after → Owes a words status
-owing valid served a words status exact kept shelf sink = record {
+pub guaranteed : MarginIsValid → IsNeverSpent → (a : Around) (words : List (List ℕ)) (status : ℕ) → IsExact a (command_of words) status → KeepsBytes a.shelf_before a.shelf_after → KeepsCounts a.shelf_before a.shelf_after
+    → KeepsCount a.sink_before a.sink_after → (names_read (command_of words) ≡ [] → a.shelf_after ≡ a.shelf_before) → Guarantees a words status
+guaranteed valid served a words status exact kept shelf sink untouched = record {
   margin = λ asked e c has. answered a (IsDue (command_of words) (told a) (ShelfRose a)) (MarginShows (ShelfRose a) asked c) status
       (λ s t due. margin-shows valid (told a) (ShelfRose a) asked c has s t (subst (λ (x : Option Command). IsDue x (told a) (ShelfRose a) s t) e due)) exact;
   serves = λ asked e c has goes enough. never a (IsDue (command_of words) (told a) (ShelfRose a)) 5 status (λ e. absurd (cc)) (λ e. absurd (cc))
@@ -71,10 +71,11 @@ owing valid served a words status exact kept shelf sink = record {
       (λ s t due. check-shows (told a) (ShelfRose a) asked c has some s t (subst (λ (x : Option Command). IsDue x (told a) (ShelfRose a) s t) e due)) exact;
   report = λ asked e c has some. answered a (IsDue (command_of words) (told a) (ShelfRose a)) (JudgedShows (told a) (ShelfRose a) asked.case asked.cert c (Reports c)) status
       (λ s t due. report-shows (told a) (ShelfRose a) asked c has some s t (subst (λ (x : Option Command). IsDue x (told a) (ShelfRose a) s t) e due)) exact;
-  demo = λ asked e. demo-owes a asked status (subst (λ (x : Option Command). IsExact a x status) e exact);
+  demo = λ asked e. demo-guarantees a asked status (subst (λ (x : Option Command). IsExact a x status) e exact);
   exact = exact;
   complete = complete a (command_of words) status exact;
   causes = causes a (command_of words) status exact;
+  untouched = untouched;
   kept = kept;
   shelf_counts = shelf;
   sink_count = sink;
