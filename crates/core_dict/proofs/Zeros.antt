@@ -1,13 +1,14 @@
 -- The programme whose numbers are all 0.
-use Rattle.std.proofs.Common.{◌≡◌, ℕ, ◌<◌, ◌≤◌, ◌^◌, ◌⊎◌, inl, inr, ℤ, pos, unsigned_abs, length, get_or}
+use Rattle.std.proofs.Common.{◌≡◌, ℕ, ◌<◌, ◌≤◌, ◌⊎◌, inl, inr, ℤ, pos, unsigned_abs, length, get_or}
 use Rattle.std.proofs.Common.{replicate, sym, subst}
 use Rattle.std.proofs.Math.Dec.{lit≤}
 use Rattle.std.proofs.lemmas.Bool.{cases_lt}
 use Rattle.std.proofs.lemmas.List.{get_or-replicate, get_or_past, length-replicate}
 use Rattle.std.proofs.lemmas.List.Elements.{All-replicate}
 use Rattle.core_sums.specs.Places.{at}
+use Rattle.core_sums.specs.Widths.{most64}
 use Rattle.core_dict.specs.Programme.{Row, no_row, IsProgramme, IsSmall}
-use Rattle.core_dict.specs.Programme.{zeros}
+use Rattle.core_dict.specs.Programme.{most_size, zeros}
 
 -- a row of zeros
 abbrev zero_row : ℕ → Row
@@ -40,11 +41,11 @@ IsProgramme_zeros rows cols h = record {
 }
 
 -- and small
-pub IsSmall_zeros : (rows cols : ℕ) → rows ≤ 65535 → cols ≤ 65535 → IsSmall (zeros rows cols)
+pub IsSmall_zeros : (rows cols : ℕ) → rows ≤ most_size → cols ≤ most_size → IsSmall (zeros rows cols)
 IsSmall_zeros rows cols h k = record {
-  rows = subst (λ (m : ℕ). m ≤ 65535) (sym (length-replicate rows (zero_row cols))) h;
+  rows = subst (λ (m : ℕ). m ≤ most_size) (sym (length-replicate rows (zero_row cols))) h;
   cols = k;
-  entries = λ i j. each (λ (r : Row). unsigned_abs (at r.entries j) ≤ 2 ^ 62) rows cols i
-      (subst (λ (z : ℤ). unsigned_abs z ≤ 2 ^ 62) (sym (at_zeros cols j)) (lit≤ tt)) (lit≤ tt);
-  bounds = λ i. each (λ (r : Row). unsigned_abs r.bound ≤ 2 ^ 62) rows cols i (lit≤ tt) (lit≤ tt);
+  entries = λ i j. each (λ (r : Row). unsigned_abs (at r.entries j) ≤ most64) rows cols i
+      (subst (λ (z : ℤ). unsigned_abs z ≤ most64) (sym (at_zeros cols j)) (lit≤ tt)) (lit≤ tt);
+  bounds = λ i. each (λ (r : Row). unsigned_abs r.bound ≤ most64) rows cols i (lit≤ tt) (lit≤ tt);
 }

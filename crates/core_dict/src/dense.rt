@@ -4,7 +4,8 @@ ghost use Rattle.fractions.specs.Fraction.{zero_q};
 ghost use Rattle.core_dict.specs.Rows.{AreWide, width};
 ghost use Rattle.core_dict.specs.Variables.{HaveVariables};
 
-use crate::fill::{costs, room, slots, variables, zeros};
+use crate::fill::{costs, room, slots, zeros};
+use crate::numbers::variables_from;
 use crate::row::{Row, Slot};
 use crate::steps::{exchange_all, make_others, other_entries, own_row};
 use crate::widen::{wide_numbers, wide_slots};
@@ -96,8 +97,8 @@ impl<E: Exact> Store<E> for Dense<E> {
         Ok(Dense {
             slots: slots(alloc, programme)?,
             costs: costs(alloc, cols)?,
-            basic: variables(alloc, cols as u32 + 1, rows)?,
-            nonbasic: variables(alloc, 1, cols)?,
+            basic: variables_from(alloc, cols as u32 + 1, rows)?,
+            nonbasic: variables_from(alloc, 1, cols)?,
             own: room(alloc, cols)?,
             spare_costs: zeros(alloc, cols)?,
         })

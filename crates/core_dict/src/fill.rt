@@ -1,5 +1,5 @@
 // The parts of a new tableau.
-ghost use Rattle.std.specs.Prelude.{◌≡◌, ℕ, ◌<◌, ◌≤◌, ◌+◌, ◌^◌, suc, IfOk, length, get_or, ◌==◌, if◌then◌else◌};
+ghost use Rattle.std.specs.Prelude.{◌≡◌, ℕ, ◌<◌, suc, IfOk, length, ◌==◌, if◌then◌else◌};
 ghost use Rattle.fractions.specs.Fraction.{zero_q, one_q, whole};
 ghost use Rattle.core_dict.specs.Programme.{IsProgramme, IsSmall, height, entry as programme_entry, bound as programme_bound};
 ghost use Rattle.core_dict.specs.Rows.{fraction_at, entry_of, width};
@@ -80,20 +80,6 @@ pub fn costs<E: Exact>(alloc: Global, cols: usize) -> Result<Vec<E>, AllocError>
     let mut all = Vec::with_capacity(alloc, cols)?;
     for j in 0..cols {
         all.push(if j + 1 == cols { E::one() } else { E::zero() })?;
-    }
-    Ok(all)
-}
-
-/// So many variables, numbered from a number on.
-pub fn variables(alloc: Global, first: u32, n: usize) -> Result<Vec<u32>, AllocError>
-    requires first_in { first ≤ 65536 }
-    requires few { n ≤ 65535 }
-    ensures width { IfOk result (λ v. length v.items ≡ n) }
-    ensures variables { IfOk result (λ v. (i : ℕ) → i < n → get_or v.items i 0 ≡ first + i) }
-{
-    let mut all = Vec::with_capacity(alloc, n)?;
-    for i in 0..n {
-        all.push(first + i as u32)?;
     }
     Ok(all)
 }

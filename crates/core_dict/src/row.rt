@@ -3,7 +3,7 @@ ghost use Rattle.core_dict.specs.NextEntry.{IsNextEntry};
 ghost use Rattle.core_dict.specs.Rows.{entry_of, width};
 
 use crate::RowEntry;
-use crate::steps::is_zero;
+use crate::numbers::is_zero;
 use exact_frac::Exact;
 
 /// The entries of a row by column, and its value.

@@ -7,28 +7,10 @@ ghost use Rattle.core_dict.specs.Rows.{fraction_at, width, entry_of, divided_ent
 ghost use Rattle.core_dict.specs.Rows.{IsOwnAfter, OwnRowLeaves, EntriesLeave, IsAfter, RowLeaves};
 ghost use Rattle.core_dict.specs.Rows.{IsWide, AreWide, IsMade, IsExchanged};
 
+use crate::numbers::{divided, is_zero};
 use crate::row::{Row, Slot};
 use exact_frac::{Exact, Left};
 use std::mem;
-
-/// Whether a number is 0.
-pub fn is_zero<E: Exact>(x: E) -> bool
-    ensures { IsTrue result ↔ (E.value x ≡ zero_q) }
-{
-    x.sign() == 0
-}
-
-// a / p, where a 0 is not divided.
-fn divided<E: Exact>(a: E, p: E) -> Result<E, Left>
-    requires { E.value p ≢ zero_q }
-    ensures exact { IfOk result (λ x. E.value x ≡ E.value a /ℚ E.value p) }
-    ensures left { IsErr result ↔ OverLeaves (unsigned_abs E.MOST) (E.value a) (E.value p) }
-{
-    if is_zero(a) {
-        return Ok(a);
-    }
-    a.over(p)
-}
 
 // The entries of the pivot's own row afterwards.
 fn own_entries<E: Exact>(before: &[E], col: usize, after: &mut [E]) -> Result<(), Left>

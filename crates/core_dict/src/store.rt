@@ -1,6 +1,7 @@
 // A dictionary behind a trait, at two widths.
-ghost use Rattle.std.specs.Prelude.{◌≡◌, ◌≢◌, ◌↔◌, ◌≤◌, ◌<◌, ◌+◌, ◌-◌, ◌^◌, suc, Bool, true, pos};
+ghost use Rattle.std.specs.Prelude.{◌≡◌, ◌≢◌, ◌↔◌, ◌≤◌, ◌<◌, ◌+◌, suc, Bool, true, pos};
 ghost use Rattle.std.specs.Prelude.{unsigned_abs, Ok, Err, IfOk, OnOk, OnErr};
+ghost use Rattle.core_sums.specs.Widths.{most, most64};
 ghost use Rattle.fractions.specs.Fraction.{zero_q};
 ghost use Rattle.core_dict.specs.Dictionary.{Dictionary, start as start_of, slack_of, IsDictionary};
 ghost use Rattle.core_dict.specs.Pivot.{pivot as pivot_of};
@@ -116,13 +117,13 @@ pub trait Shift: Store<Frac128> {
     /// The bound of a row of the programme, by position from 0, grows by `by`. Left changes nothing.
     fn shift(&mut self, alloc: Global, row: usize, by: i64) -> Result<(), PivotFault>
         requires row_in { row < (Self.dictionary self.old).rows }
-        requires small { unsigned_abs by ≤ 2 ^ 62 }
+        requires small { unsigned_abs by ≤ most64 }
         ensures moved { let d = Self.dictionary self.old in
             OnOk result (Self.dictionary self.new ≡ shifted d (slack_of d row) by) }
         ensures fits { let d = Self.dictionary self.old in
-            OnOk result (¬ (ShiftLeaves (2 ^ 127 - 1) d (slack_of d row) by)) }
+            OnOk result (¬ (ShiftLeaves most d (slack_of d row) by)) }
         ensures left { let d = Self.dictionary self.old in
-            result ≡ Err PivotFault.Left → ShiftLeaves (2 ^ 127 - 1) d (slack_of d row) by }
+            result ≡ Err PivotFault.Left → ShiftLeaves most d (slack_of d row) by }
         ensures memory { result ≡ Err PivotFault.NoMemory → Self.TAKES_MEMORY ≡ true }
         ensures unchanged { OnErr result (Self.dictionary self.new ≡ Self.dictionary self.old) };
 }

@@ -1,6 +1,7 @@
 // The lists that a dictionary gives.
 ghost use Rattle.std.specs.Prelude.{◌≡◌, ℕ, suc, ◌+◌, ◌-◌, ◌^◌, ◌<◌, ◌==◌, if◌then◌else◌};
 ghost use Rattle.std.specs.Prelude.{length, map, Err, IfOk, OnOk};
+ghost use Rattle.core_sums.specs.Widths.{most};
 ghost use Rattle.fractions.specs.Fraction.{zero_q};
 ghost use Rattle.exact_frac.specs.Value128.{value128};
 ghost use Rattle.core_dict.specs.Rows.{fraction_at};
@@ -18,9 +19,9 @@ use std::alloc::{AllocError, Global};
 pub fn primal<S: Store<Frac128>>(alloc: Global, dict: &S) -> Result<Scaled, DualFault>
     ensures exact { IfOk result (IsOverCommon (primal_of (S.dictionary dict.now))) }
     ensures fits { OnOk result
-        (¬ (CommonLeaves (2 ^ 127 - 1) (primal_of (S.dictionary dict.now)))) }
+        (¬ (CommonLeaves most (primal_of (S.dictionary dict.now)))) }
     ensures too_wide { result ≡ Err DualFault.TooWide
-        → CommonLeaves (2 ^ 127 - 1) (primal_of (S.dictionary dict.now)) }
+        → CommonLeaves most (primal_of (S.dictionary dict.now)) }
 {
     let list = values(alloc, dict)?;
     over_common(alloc, &list)
@@ -31,9 +32,9 @@ pub fn primal<S: Store<Frac128>>(alloc: Global, dict: &S) -> Result<Scaled, Dual
 pub fn duals<S: Store<Frac128>>(alloc: Global, dict: &S) -> Result<Scaled, DualFault>
     ensures exact { IfOk result (IsOverCommon (duals_of (S.dictionary dict.now))) }
     ensures fits { OnOk result
-        (¬ (CommonLeaves (2 ^ 127 - 1) (duals_of (S.dictionary dict.now)))) }
+        (¬ (CommonLeaves most (duals_of (S.dictionary dict.now)))) }
     ensures too_wide { result ≡ Err DualFault.TooWide
-        → CommonLeaves (2 ^ 127 - 1) (duals_of (S.dictionary dict.now)) }
+        → CommonLeaves most (duals_of (S.dictionary dict.now)) }
 {
     let list = costs(alloc, dict)?;
     over_common(alloc, &list)
@@ -46,9 +47,9 @@ pub fn farkas<S: Store<Frac128>>(alloc: Global, dict: &S, row: usize) -> Result<
     requires { row < (S.dictionary dict.now).rows }
     ensures exact { IfOk result (IsOverCommon (farkas_of (S.dictionary dict.now) row)) }
     ensures fits { OnOk result
-        (¬ (CommonLeaves (2 ^ 127 - 1) (farkas_of (S.dictionary dict.now) row))) }
+        (¬ (CommonLeaves most (farkas_of (S.dictionary dict.now) row))) }
     ensures too_wide { result ≡ Err DualFault.TooWide
-        → CommonLeaves (2 ^ 127 - 1) (farkas_of (S.dictionary dict.now) row) }
+        → CommonLeaves most (farkas_of (S.dictionary dict.now) row) }
 {
     let list = coefficients(alloc, dict, row)?;
     over_common(alloc, &list)

@@ -1,5 +1,6 @@
 // Fractions over their least common denominator.
 ghost use Rattle.std.specs.Prelude.{◌≡◌, ◌^◌, ◌-◌, map, Err, IfOk, OnOk};
+ghost use Rattle.core_sums.specs.Widths.{most};
 ghost use Rattle.exact_frac.specs.Value128.{value128};
 ghost use Rattle.core_duals.specs.Lists.{CommonLeaves};
 ghost use Rattle.core_duals.specs.Scaled.{IsOverCommon};
@@ -51,9 +52,9 @@ impl From<Left> for DualFault {
 /// A list over its least common denominator.
 pub(crate) fn over_common(alloc: Global, list: &[Frac128]) -> Result<Scaled, DualFault>
     ensures exact { IfOk result (IsOverCommon (map value128 list.now)) }
-    ensures fits { OnOk result (¬ (CommonLeaves (2 ^ 127 - 1) (map value128 list.now))) }
+    ensures fits { OnOk result (¬ (CommonLeaves most (map value128 list.now))) }
     ensures too_wide { result ≡ Err DualFault.TooWide
-        → CommonLeaves (2 ^ 127 - 1) (map value128 list.now) }
+        → CommonLeaves most (map value128 list.now) }
 {
     let den = common_den(list)?;
     let mut nums = Numbers::zeros(alloc, list.len())?;

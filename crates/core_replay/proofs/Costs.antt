@@ -17,7 +17,7 @@ use Rattle.core_replay.specs.Steps.{cost_flows, with_flows}
 use Rattle.core_replay.specs.Answers.{StopsOn}
 use Rattle.core_replay.specs.declared.fault.ReplayFault.{ReplayFault}
 use Rattle.core_replay.specs.declared.fault.ReplayFault.TheVariants.{TooWide, NoMemory}
-use Rattle.core_replay.proofs.Dues.{with-none, with-more, pays-inside}
+use Rattle.core_replay.proofs.ByPayDay.{with-none, with-more, pays-inside}
 use Rattle.core_replay.proofs.LineFlows.{met}
 
 -- a number that is taken off is one step of a sum
@@ -65,12 +65,12 @@ costs-more c a l t n m e =
 
 -- the costs of the first n tiers have been put on the list of their pay day
 pub record AreCosts (c : CaseView) (a : Plan) (l t n : ℕ) (old rows : List (List ℤ)) : Type 0 where
-  pub due : rows ≡ with_flows old (pays c (instrument_of c l) t) (costs_to c a l t n)
+  pub payable : rows ≡ with_flows old (pays c (instrument_of c l) t) (costs_to c a l t n)
   pub stays : any_leaves (costs_to c a l t n) ≡ false
 
-pub costs-start : (c : CaseView) (a : Plan) (l t : ℕ) (due : List (List ℤ)) → AreCosts c a l t 0 due due
-costs-start c a l t due = record {
-  due = sym (ap (with_flows due (pays c (instrument_of c l) t)) (costs-none c a l t) ∙ with-none due (pays c (instrument_of c l) t));
+pub costs-start : (c : CaseView) (a : Plan) (l t : ℕ) (payable : List (List ℤ)) → AreCosts c a l t 0 payable payable
+costs-start c a l t payable = record {
+  payable = sym (ap (with_flows payable (pays c (instrument_of c l) t)) (costs-none c a l t) ∙ with-none payable (pays c (instrument_of c l) t));
   stays = ap any_leaves (costs-none c a l t);
 }
 
@@ -80,18 +80,18 @@ costs-step c a l t n m old before after long next is put stays =
     let day = pays c (instrument_of c l) t in
     let whole = costs-more c a l t n m next in
     record {
-      due = put
-          ∙ ap (λ ds. with_flows ds day (cost_flows c a l t m)) is.due
+      payable = put
+          ∙ ap (λ ds. with_flows ds day (cost_flows c a l t m)) is.payable
           ∙ with-more old day (costs_to c a l t n) (cost_flows c a l t m) (pays-inside c l t (length old) long)
           ∙ ap (with_flows old day) (sym whole);
       stays = ap any_leaves whole ∙ none-append (costs_to c a l t n) (cost_flows c a l t m) is.stays stays;
     }
 
-pub costs-put : (c : CaseView) (a : Plan) (l t n : ℕ) (old due : List (List ℤ)) → n ≡ tiers c → AreCosts c a l t n old due
-    → (due ≡ with_flows old (pays c (instrument_of c l) t) (costs c a l t)) × (any_leaves (costs c a l t) ≡ false)
-costs-put c a l t n old due all is =
+pub costs-put : (c : CaseView) (a : Plan) (l t n : ℕ) (old payable : List (List ℤ)) → n ≡ tiers c → AreCosts c a l t n old payable
+    → (payable ≡ with_flows old (pays c (instrument_of c l) t) (costs c a l t)) × (any_leaves (costs c a l t) ≡ false)
+costs-put c a l t n old payable all is =
     let whole : costs_to c a l t n ≡ costs c a l t = ap (λ (m : ℕ). costs_to c a l t m) all ∙ sym (costs-all c a l t) in
-    (is.due ∙ ap (with_flows old (pays c (instrument_of c l) t)) whole, ap any_leaves (sym whole) ∙ is.stays)
+    (is.payable ∙ ap (with_flows old (pays c (instrument_of c l) t)) whole, ap any_leaves (sym whole) ∙ is.stays)
 
 pub cost-leaves : (c : CaseView) (a : Plan) (l t n m : ℕ) → n < tiers c → m ≡ suc n → any_leaves (cost_flows c a l t m) ≡ true → any_leaves (costs c a l t) ≡ true
 cost-leaves c a l t n m under next out =

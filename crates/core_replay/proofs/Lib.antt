@@ -1,6 +1,6 @@
 mod Sizes
 mod LineFlows
-mod Dues
+mod ByPayDay
 mod Costs
 pub mod Totals
 mod Standing

@@ -8,7 +8,7 @@ use Rattle.core_sums.specs.Widths.{any_leaves, leaves, most}
 use Rattle.core_book.specs.View.{CaseView, cash, instrument_of}
 use Rattle.core_model.specs.Closing.{Plan, cash_of}
 use Rattle.core_replay.specs.Ledger.{paid_on, opening_numbers, lines_numbers, paid_numbers, later_numbers, day_leaves, flows_until}
-use Rattle.core_replay.specs.Steps.{AreStanding, AreDue, sum_numbers}
+use Rattle.core_replay.specs.Steps.{AreStanding, ArePayable, sum_numbers}
 use Rattle.core_replay.specs.Answers.{AreByDay, StopsOn, StopsReplay}
 use Rattle.core_replay.specs.Runs.{AreEntered}
 use Rattle.core_replay.specs.declared.fault.ReplayFault.{ReplayFault}
@@ -18,7 +18,7 @@ use Rattle.std.proofs.lemmas.List.Folds.{list_any-append}
 use Rattle.core_replay.specs.declared.lines.Standing.{Standing}
 use Rattle.core_replay.proofs.LineFlows.{day_before-first, day_before-second}
 use Rattle.core_replay.proofs.Totals.{cash-more}
-use Rattle.core_replay.proofs.Dues.{due-at}
+use Rattle.core_replay.proofs.ByPayDay.{payable-at}
 
 -- one more day is entered
 pub entered-none : (c : CaseView) (f : ℕ → ℤ) (n : ℕ) (xs : List ℤ) → n ≡ suc c.last → xs ≡ replicate n (pos 0) → AreEntered c f 0 xs
@@ -45,16 +45,16 @@ pub total-none : (f : ℕ → ℤ) (z : ℤ) → z ≡ pos 0 → z ≡ sum_below
 unfolding sum_below
 total-none f z e = e
 
--- what is due when a day's lines are done
-pub due-now : (c : CaseView) (a : Plan) (k t : ℕ) (due : List (List ℤ)) → t ≤ c.last → AreDue c a k t 0 due → row_at due t ≡ flows_until c a k t t
-due-now c a k t due within before = due-at c a k t t due within before
+-- what is payable when a day's lines are done
+pub payable-now : (c : CaseView) (a : Plan) (k t : ℕ) (payable : List (List ℤ)) → t ≤ c.last → ArePayable c a k t 0 payable → row_at payable t ≡ flows_until c a k t t
+payable-now c a k t payable within before = payable-at c a k t t payable within before
 
-pub due-first : (c : CaseView) (a : Plan) (k t : ℕ) (due : List (List ℤ)) → t ≡ 0 → AreDue c a k (t - 1) 0 due → AreDue c a k t 0 due
-due-first c a k zero due e before = subst (λ (n : ℕ). AreDue c a k n 0 due) (omega arith) before
-due-first c a k (suc t) due e before = absurd (omega (arith, e))
+pub payable-first : (c : CaseView) (a : Plan) (k t : ℕ) (payable : List (List ℤ)) → t ≡ 0 → ArePayable c a k (t - 1) 0 payable → ArePayable c a k t 0 payable
+payable-first c a k zero payable e before = subst (λ (n : ℕ). ArePayable c a k n 0 payable) (omega arith) before
+payable-first c a k (suc t) payable e before = absurd (omega (arith, e))
 
-pub due-next : (c : CaseView) (a : Plan) (k t : ℕ) (due : List (List ℤ)) → AreDue c a k t 0 due → AreDue c a k (suc t - 1) 0 due
-due-next c a k t due before = let e : t ≡ suc t - 1 = omega arith in subst (λ (n : ℕ). AreDue c a k n 0 due) e before
+pub payable-next : (c : CaseView) (a : Plan) (k t : ℕ) (payable : List (List ℤ)) → ArePayable c a k t 0 payable → ArePayable c a k (suc t - 1) 0 payable
+payable-next c a k t payable before = let e : t ≡ suc t - 1 = omega arith in subst (λ (n : ℕ). ArePayable c a k n 0 payable) e before
 
 -- the lines before day 0 stand as before day 1, since day 0 has no closing
 pub standing-first : (c : CaseView) (a : Plan) (t : ℕ) (xs : List Standing) → t ≡ 0 → AreStanding c a t 0 xs → AreStanding c a (suc t) 0 xs

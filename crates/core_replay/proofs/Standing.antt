@@ -14,9 +14,9 @@ use Rattle.core_replay.proofs.LineFlows.{still_open-first, day_before-first}
 use Rattle.core_sums.proofs.Leaving.{none-below, one-of-below, none-each, one-of-each}
 
 -- a flow is put behind those of its day
-pub put-view : (vs : List (Vec ℤ Global)) (due : List (List ℤ)) (i : ℕ) (old new : Vec ℤ Global) (x : ℤ) → map (λ v. v.items) vs ≡ due → i < length due → length vs ≡ length due
-    → old ≡ get_or vs i old → new.items ≡ old.items ++ (x ∷ []) → map (λ v. v.items) (slice_set vs i new) ≡ slice_set due i (row_at due i ++ (x ∷ []))
-put-view vs due i old new x view within long here more =
+pub put-view : (vs : List (Vec ℤ Global)) (payable : List (List ℤ)) (i : ℕ) (old new : Vec ℤ Global) (x : ℤ) → map (λ v. v.items) vs ≡ payable → i < length payable → length vs ≡ length payable
+    → old ≡ get_or vs i old → new.items ≡ old.items ++ (x ∷ []) → map (λ v. v.items) (slice_set vs i new) ≡ slice_set payable i (row_at payable i ++ (x ∷ []))
+put-view vs payable i old new x view within long here more =
     let row : row_at (map (λ v. v.items) vs) i ≡ old.items = get_or-map (λ v. v.items) vs i old [] (omega (arith, within, long)) ∙ ap (λ v. v.items) (sym here) in
     map-set (λ v. v.items) vs i new ∙ ap (λ xs. slice_set (map (λ v. v.items) vs) i xs) (more ∙ ap (λ xs. xs ++ (x ∷ [])) (sym row))
     ∙ ap (λ ds. slice_set ds i (row_at ds i ++ (x ∷ []))) view

@@ -42,15 +42,15 @@ pub record AreStanding (c : CaseView) (a : Plan) (t n : ℕ) (xs : List Standing
   pub gone : (l : ℕ) → l < n → l < line_count c → IsStanding c a l (suc t) (get_or xs l no_standing)
   pub to_go : (l : ℕ) → n ≤ l → l < line_count c → IsStanding c a l t (get_or xs l no_standing)
 
--- a list of due flows by day with some more, which have one pay day
+-- a list of payable flows by day with some more, which have one pay day
 abbrev pub with_flows : List (List ℤ) → Option ℕ → List ℤ → List (List ℤ)
-with_flows due None flows = due
-with_flows due (Some w) flows = slice_set due w (row_at due w ++ flows)
+with_flows payable None flows = payable
+with_flows payable (Some w) flows = slice_set payable w (row_at payable w ++ flows)
 
--- the due flows of the days to v, and of the first n lines on the day after
-pub record AreDue (c : CaseView) (a : Plan) (k v n : ℕ) (due : List (List ℤ)) : Type 0 where
-  pub count : length due ≡ suc c.last
-  pub each : (w : ℕ) → w ≤ c.last → row_at due w ≡ flows_until c a k w v ++ flows_of_day c a k w (suc v) n
+-- the payable flows of the days to v, and of the first n lines on the day after
+pub record ArePayable (c : CaseView) (a : Plan) (k v n : ℕ) (payable : List (List ℤ)) : Type 0 where
+  pub count : length payable ≡ suc c.last
+  pub each : (w : ℕ) → w ≤ c.last → row_at payable w ≡ flows_until c a k w v ++ flows_of_day c a k w (suc v) n
 
 -- the numbers that a day meets after the lines: the fixed cash, the sums of what is paid, and the total
 abbrev pub sum_numbers : CaseView → Plan → ℕ → ℕ → List ℤ

@@ -9,9 +9,9 @@ ghost use Rattle.core_wide.specs.Steps.{Leaves, Stays, summed};
 ghost use Rattle.core_replay.specs.Steps.{unit_of, base_of, cost_flows, with_flows, IsStanding};
 ghost use Rattle.core_replay.specs.Answers.{StopsOn};
 
-use crate::due::DueFlows;
 use crate::fault::ReplayFault;
 use crate::lines::Standing;
+use crate::payable::PayableFlows;
 use core_book::{Case, Kind};
 use core_model::CaseCalendar;
 use core_wide::{add_each, plus, times};
@@ -21,8 +21,7 @@ fn size(case: &Case, l: usize) -> i64
     requires line { l < line_count case.now }
     ensures { result ≡ size case.now l }
 {
-    // Every case keeps the ranges and references of a well-formed one.
-    let _kept = case.horizon();
+    case.well_formed();
     let line = case.line(l);
     i64::from(line.sign) * case.instrument(line.instrument).mult
 }
@@ -35,8 +34,7 @@ fn price_change(case: &Case, scenario: usize, l: usize, t: u8, marked_on: u8) ->
     requires marked { marked_on ≡ day_before case.now (instrument_of case.now l) t }
     ensures { result ≡ price_change case.now scenario l t }
 {
-    // Every case keeps the ranges and references of a well-formed one.
-    let _kept = case.horizon();
+    case.well_formed();
     let i = case.line(l).instrument;
     case.price(scenario, i, t) - case.price(scenario, i, marked_on)
 }
@@ -49,8 +47,7 @@ fn unit_of(case: &Case, scenario: usize, l: usize, t: u8, marked_on: u8) -> i64
     requires marked { marked_on ≡ day_before case.now (instrument_of case.now l) t }
     ensures { result ≡ unit_of case.now scenario l t }
 {
-    // Every case keeps the ranges and references of a well-formed one.
-    let _kept = case.horizon();
+    case.well_formed();
     let i = case.line(l).instrument;
     match case.instrument(i).kind {
         Kind::Future => size(case, l) * price_change(case, scenario, l, t, marked_on),
@@ -145,8 +142,7 @@ fn pay_day(case: &Case, l: usize, t: u8) -> Option<u8>
     requires day { t ≤ case.now.last }
     ensures { result ≡ pays case.now (instrument_of case.now l) t }
 {
-    // Every case keeps the ranges and references of a well-formed one.
-    let _kept = case.horizon();
+    case.well_formed();
     case.pays(case.line(l).instrument, t)
 }
 
@@ -157,14 +153,14 @@ fn put_cost(
     l: usize,
     t: u8,
     j: u8,
-    due: &mut DueFlows,
+    payable: &mut PayableFlows,
 ) -> Result<(), ReplayFault>
     requires line { l < line_count calendar.now.case }
     requires from { 1 ≤ t }
     requires to { t ≤ calendar.now.case.last }
     requires tier { IsTierNumber calendar.now.case j }
-    requires due { length due.old ≡ suc calendar.now.case.last }
-    ensures due { IfOk result (λ _. due.new ≡ with_flows due.old
+    requires payable { length payable.old ≡ suc calendar.now.case.last }
+    ensures payable { IfOk result (λ _. payable.new ≡ with_flows payable.old
         (pays calendar.now.case (instrument_of calendar.now.case l) t)
         (cost_flows calendar.now.case (planned calendar.now) l t j)) }
     ensures stays { IfOk result
@@ -180,7 +176,7 @@ fn put_cost(
         return Err(ReplayFault::TooWide { scenario, day: t });
     };
     let paid_on = pay_day(case, l, t);
-    due.add(paid_on, flow)?;
+    payable.add(paid_on, flow)?;
     Ok(())
 }
 
@@ -190,13 +186,13 @@ fn put_costs(
     scenario: usize,
     l: usize,
     t: u8,
-    due: &mut DueFlows,
+    payable: &mut PayableFlows,
 ) -> Result<(), ReplayFault>
     requires line { l < line_count calendar.now.case }
     requires from { 1 ≤ t }
     requires to { t ≤ calendar.now.case.last }
-    requires due { length due.old ≡ suc calendar.now.case.last }
-    ensures due { IfOk result (λ _. due.new ≡ with_flows due.old
+    requires payable { length payable.old ≡ suc calendar.now.case.last }
+    ensures payable { IfOk result (λ _. payable.new ≡ with_flows payable.old
         (pays calendar.now.case (instrument_of calendar.now.case l) t)
         (map (cost_flow calendar.now.case (planned calendar.now) l t)
         (costly_tiers calendar.now.case (instrument_of calendar.now.case l)))) }
@@ -209,7 +205,7 @@ fn put_costs(
 {
     let case = calendar.case();
     for j in 0..case.tiers() {
-        put_cost(calendar, scenario, l, t, j + 1, due)?;
+        put_cost(calendar, scenario, l, t, j + 1, payable)?;
     }
     Ok(())
 }
@@ -221,15 +217,15 @@ pub(crate) fn put_flows(
     l: usize,
     t: u8,
     standing: Standing,
-    due: &mut DueFlows,
+    payable: &mut PayableFlows,
 ) -> Result<(), ReplayFault>
     requires scenario { scenario < length calendar.now.case.scenarios }
     requires line { l < line_count calendar.now.case }
     requires from { 1 ≤ t }
     requires to { t ≤ calendar.now.case.last }
     requires standing { IsStanding calendar.now.case (planned calendar.now) l t standing }
-    requires due { length due.old ≡ suc calendar.now.case.last }
-    ensures due { IfOk result (λ _. due.new ≡ with_flows due.old
+    requires payable { length payable.old ≡ suc calendar.now.case.last }
+    ensures payable { IfOk result (λ _. payable.new ≡ with_flows payable.old
         (pays calendar.now.case (instrument_of calendar.now.case l) t)
         (line_flows calendar.now.case (planned calendar.now) scenario l t)) }
     ensures stays { IfOk result (λ _. any_leaves
@@ -241,7 +237,7 @@ pub(crate) fn put_flows(
     let Some(flow) = flow(calendar, scenario, l, t, standing) else {
         return Err(ReplayFault::TooWide { scenario, day: t });
     };
-    due.add(pay_day(case, l, t), flow)?;
-    put_costs(calendar, scenario, l, t, due)?;
+    payable.add(pay_day(case, l, t), flow)?;
+    put_costs(calendar, scenario, l, t, payable)?;
     Ok(())
 }

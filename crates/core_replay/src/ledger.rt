@@ -11,9 +11,9 @@ ghost use Rattle.core_replay.specs.Steps.{sum_numbers};
 ghost use Rattle.core_replay.specs.Runs.{IsRun};
 ghost use Rattle.core_replay.specs.Answers.{IsLedger, StopsReplay, StopsOn};
 
-use crate::due::DueFlows;
 use crate::fault::ReplayFault;
 use crate::lines::{Standing, day_lines, open_lines};
+use crate::payable::PayableFlows;
 use core_book::Case;
 use core_model::{Calendar, CaseCalendar, Numbers};
 use core_wide::{plus, sum_from, times};
@@ -32,7 +32,7 @@ pub struct Ledger {
 #[derive(Drop)]
 struct Run {
     lines: Vec<Standing>,
-    due: DueFlows,
+    payable: PayableFlows,
     /// The total of the day before, 0 on day 0.
     total: i128,
     ledger: Ledger,
@@ -54,11 +54,11 @@ fn day_sums(
     calendar: &CaseCalendar,
     scenario: usize,
     t: u8,
-    due: &[i128],
+    payable: &[i128],
     before: i128,
 ) -> Option<(i128, i128)>
     requires day { t ≤ calendar.now.case.last }
-    requires due { due.now ≡ flows_until
+    requires payable { payable.now ≡ flows_until
         calendar.now.case (planned calendar.now) scenario t t }
     requires before { before ≡ sum_below t (paid_on
         calendar.now.case (planned calendar.now) scenario) }
@@ -73,7 +73,7 @@ fn day_sums(
 {
     let case = calendar.case();
     let cash = times(calendar.calendar().den, i128::from(case.cash(t)))?;
-    let paid = sum_from(cash, due)?;
+    let paid = sum_from(cash, payable)?;
     let total = plus(before, paid)?;
     Some((paid, total))
 }
@@ -91,11 +91,11 @@ impl Run {
         let case = calendar.case();
         let lines = open_lines(alloc, calendar, scenario)?;
         let days = usize::from(case.last()) + 1;
-        let due = DueFlows::none(alloc, days)?;
+        let payable = PayableFlows::none(alloc, days)?;
         let ledger = empty_ledger(alloc, calendar.calendar().den, days)?;
         Ok(Run {
             lines,
-            due,
+            payable,
             total: 0,
             ledger,
         })
@@ -116,9 +116,9 @@ impl Run {
             (StopsOn scenario t (later_numbers
             calendar.now.case (planned calendar.now) scenario t)) }
     {
-        day_lines(calendar, scenario, t, &mut self.lines, &mut self.due)?;
-        let due = self.due.on(t);
-        let Some((paid, total)) = day_sums(calendar, scenario, t, due, self.total) else {
+        day_lines(calendar, scenario, t, &mut self.lines, &mut self.payable)?;
+        let payable = self.payable.on(t);
+        let Some((paid, total)) = day_sums(calendar, scenario, t, payable, self.total) else {
             return Err(ReplayFault::TooWide { scenario, day: t });
         };
         self.ledger.paid.set(usize::from(t), paid);

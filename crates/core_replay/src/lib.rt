@@ -1,12 +1,12 @@
 //! The ledger of a calendar, day by day, and its worst loss, by a replay that adds up what is paid.
 #![tactic(auto)]
 
-mod due;
 mod fault;
 mod flows;
 mod ledger;
 mod lines;
 mod losses;
+mod payable;
 
 pub use fault::ReplayFault;
 pub use ledger::{Ledger, replay};

@@ -6,12 +6,12 @@ ghost use Rattle.core_model.specs.Closing.{IsClosingDay, line_count, still_open}
 ghost use Rattle.core_model.specs.OfCase.{planned};
 ghost use Rattle.core_replay.specs.Ledger.{opening_numbers, closings, closing_numbers, line_flows, line_numbers, lines_numbers};
 ghost use Rattle.core_wide.specs.Steps.{summed, with_number};
-ghost use Rattle.core_replay.specs.Steps.{with_flows, IsStanding, AreStanding, AreDue};
+ghost use Rattle.core_replay.specs.Steps.{with_flows, IsStanding, AreStanding, ArePayable};
 ghost use Rattle.core_replay.specs.Answers.{StopsOn};
 
-use crate::due::DueFlows;
 use crate::fault::ReplayFault;
 use crate::flows::put_flows;
+use crate::payable::PayableFlows;
 use core_book::Case;
 use core_model::CaseCalendar;
 use core_wide::{add_each, minus, times};
@@ -72,8 +72,7 @@ fn marked_after(case: &Case, l: usize, t: u8, marked_on: u8) -> u8
     requires marked { marked_on ≡ day_before case.now (instrument_of case.now l) t }
     ensures { result ≡ day_before case.now (instrument_of case.now l) (suc t) }
 {
-    // Every case keeps the ranges and references of a well-formed one.
-    let _kept = case.horizon();
+    case.well_formed();
     if case.is_open(case.line(l).instrument, t) {
         t
     } else {
@@ -88,16 +87,16 @@ fn line_day(
     l: usize,
     t: u8,
     standing: Standing,
-    due: &mut DueFlows,
+    payable: &mut PayableFlows,
 ) -> Result<Standing, ReplayFault>
     requires scenario { scenario < length calendar.now.case.scenarios }
     requires line { l < line_count calendar.now.case }
     requires from { 1 ≤ t }
     requires to { t ≤ calendar.now.case.last }
     requires standing { IsStanding calendar.now.case (planned calendar.now) l t standing }
-    requires due { length due.old ≡ suc calendar.now.case.last }
+    requires payable { length payable.old ≡ suc calendar.now.case.last }
     ensures next { IfOk result (IsStanding calendar.now.case (planned calendar.now) l (suc t)) }
-    ensures due { IfOk result (λ _. due.new ≡ with_flows due.old
+    ensures payable { IfOk result (λ _. payable.new ≡ with_flows payable.old
         (pays calendar.now.case (instrument_of calendar.now.case l) t)
         (line_flows calendar.now.case (planned calendar.now) scenario l t)) }
     ensures stays { IfOk result (λ _. any_leaves
@@ -106,7 +105,7 @@ fn line_day(
         (line_numbers calendar.now.case (planned calendar.now) scenario t l)) }
 {
     let case = calendar.case();
-    put_flows(calendar, scenario, l, t, standing, due)?;
+    put_flows(calendar, scenario, l, t, standing, payable)?;
     let Some(still_open) = open_after(calendar, l, t, standing) else {
         return Err(ReplayFault::TooWide { scenario, day: t });
     };
@@ -163,19 +162,19 @@ fn replay_lines(
     scenario: usize,
     t: u8,
     lines: &mut Vec<Standing>,
-    due: &mut DueFlows,
+    payable: &mut PayableFlows,
 ) -> Result<(), ReplayFault>
     requires scenario { scenario < length calendar.now.case.scenarios }
     requires from { 1 ≤ t }
     requires to { t ≤ calendar.now.case.last }
     requires standing { AreStanding calendar.now.case
         (planned calendar.now) t 0 lines.old.items }
-    requires due { AreDue calendar.now.case
-        (planned calendar.now) scenario (t - 1) 0 due.old }
+    requires payable { ArePayable calendar.now.case
+        (planned calendar.now) scenario (t - 1) 0 payable.old }
     ensures standing { IfOk result (λ _. AreStanding calendar.now.case
         (planned calendar.now) (suc t) 0 lines.new.items) }
-    ensures due { IfOk result (λ _. AreDue calendar.now.case
-        (planned calendar.now) scenario t 0 due.new) }
+    ensures payable { IfOk result (λ _. ArePayable calendar.now.case
+        (planned calendar.now) scenario t 0 payable.new) }
     ensures stays { IfOk result
         (λ _. any_leaves (lines_numbers
         calendar.now.case (planned calendar.now) scenario t) ≡ false) }
@@ -184,7 +183,7 @@ fn replay_lines(
         calendar.now.case (planned calendar.now) scenario t)) }
 {
     for l in 0..lines.len() {
-        lines[l] = line_day(calendar, scenario, l, t, lines[l], due)?;
+        lines[l] = line_day(calendar, scenario, l, t, lines[l], payable)?;
     }
     Ok(())
 }
@@ -195,18 +194,18 @@ pub(crate) fn day_lines(
     scenario: usize,
     t: u8,
     lines: &mut Vec<Standing>,
-    due: &mut DueFlows,
+    payable: &mut PayableFlows,
 ) -> Result<(), ReplayFault>
     requires scenario { scenario < length calendar.now.case.scenarios }
     requires day { t ≤ calendar.now.case.last }
     requires standing { AreStanding calendar.now.case
         (planned calendar.now) t 0 lines.old.items }
-    requires due { AreDue calendar.now.case
-        (planned calendar.now) scenario (t - 1) 0 due.old }
+    requires payable { ArePayable calendar.now.case
+        (planned calendar.now) scenario (t - 1) 0 payable.old }
     ensures standing { IfOk result (λ _. AreStanding calendar.now.case
         (planned calendar.now) (suc t) 0 lines.new.items) }
-    ensures due { IfOk result (λ _. AreDue calendar.now.case
-        (planned calendar.now) scenario t 0 due.new) }
+    ensures payable { IfOk result (λ _. ArePayable calendar.now.case
+        (planned calendar.now) scenario t 0 payable.new) }
     ensures stays { IfOk result
         (λ _. any_leaves (lines_numbers
         calendar.now.case (planned calendar.now) scenario t) ≡ false) }
@@ -217,6 +216,6 @@ pub(crate) fn day_lines(
     if t == 0 {
         Ok(())
     } else {
-        replay_lines(calendar, scenario, t, lines, due)
+        replay_lines(calendar, scenario, t, lines, payable)
     }
 }

@@ -7,8 +7,8 @@ use Rattle.core_rules.specs.Candidates.{Preference, RuleView}
 use Rattle.core_run.specs.Answers.{outcome_of, IsAnswer}
 use Rattle.core_run.specs.Ranked.{AreRanked}
 use Rattle.core_run.specs.Run.{Turn, Best, NoSolution, PivotOn, Pivots, turn, next, run}
-use Rattle.core_run.specs.Steps.{IsEnd, RatiosLeave, HasPivoted, HasTurned, HasRun}
-use Rattle.core_run.specs.Widths.{TurnLeaves, FitsThrough, IsSpentAfter}
+use Rattle.core_run.specs.Steps.{IsEnd, RatiosLeave, HasPivoted, HasTurned}
+use Rattle.core_run.specs.Widths.{TurnLeaves, FitsThrough, IsSpentAfter, HasRun}
 use Rattle.core_run.specs.declared.end.End.{End}
 use Rattle.core_run.specs.declared.end.RunFault.{RunFault}
 use Rattle.core_run.specs.declared.end.RunFault.TheVariants as fault
@@ -80,7 +80,7 @@ module _ (most : ℕ) (better : Preference) (d : Dictionary) where
           let same : k ≡ n - 1 = omega (arith, number) in is ∙ h.stands ∙ ap (run better d) same;
     }
     run_fault (fault.Spent b) l t = absurd t
-    run_fault fault.NoMemory l is = (k, omega arith, is ∙ h.stands)
+    run_fault fault.NoMemory l is = (k, l, record { fits = h.fits; stands = is ∙ h.stands })
 
   -- or it has spent its budget
   module _ (budget k : ℕ) (e : Dictionary) (h : HasRun most better d k e) (all : k ≡ budget) where

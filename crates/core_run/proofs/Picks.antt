@@ -2,7 +2,7 @@
 use Rattle.std.proofs.Common.{◌≡◌, refl, sym, ◌∙◌, ap, ℕ, suc, ◌+◌, Bool, true, false, cond, Option}
 use Rattle.std.proofs.Common.{None, Some, arith}
 use Rattle.core_rules.specs.Candidates.{Candidate, Preference, kept_after, pick}
-use Rattle.core_run.specs.Kept.{IsPickedAt}
+use Rattle.core_run.specs.SoFar.{IsPickedAt}
 
 -- of no places none is picked
 pub none_first : (better : Preference) (passes : ℕ → Bool) (candidate : ℕ → Candidate)

@@ -1,14 +1,13 @@
 -- A run that is made at two widths comes to what the run at the wider one does.
-use Rattle.std.proofs.Common.{◌≡◌, ℕ, ◌+◌, ◌-◌, ◌≤◌, Option, None, Some}
+use Rattle.std.proofs.Common.{◌≡◌, ℕ, ◌+◌, ◌-◌, ◌<◌, ◌≤◌, Option, None, Some}
 use Rattle.std.proofs.Common.{IfSome, option_map, ap, ◌∙◌, refl, subst, arith}
 use Rattle.core_dict.specs.Dictionary.{Dictionary}
 use Rattle.core_rules.specs.Candidates.{Preference}
 use Rattle.core_run.specs.Run.{run}
-use Rattle.core_run.specs.Widths.{FitsThrough, Outcome, Ended, TooWide, Spent, ComesTo}
+use Rattle.core_run.specs.Widths.{FitsThrough, Outcome, Ended, TooWide, Spent, ComesTo, HasRun}
 use Rattle.core_run.specs.Answers.{whole_pivots, HasCome, IsAnswer}
-use Rattle.core_run.specs.Steps.{HasRun}
 use Rattle.core_run.specs.Laws.{after}
-use Rattle.core_run.proofs.Parts.{wider_fits, run_from, goes_on}
+use Rattle.core_run.proofs.Parts.{wider_fits, run_from, fits_on, goes_on}
 
 -- ---- the whole run at the narrower type
 -- it has not left
@@ -84,7 +83,12 @@ module _ (most wider : ℕ) (better : Preference) (d : Dictionary) (j : ℕ) (e 
   -- the same of an answer, and of what a fault says
   pub answer_on : (budget : ℕ) (f : Dictionary) (o : Option Outcome) → j ≤ budget
       → IsAnswer wider better e (budget - j) f o → IsAnswer wider better d budget f (option_map (after j) o)
-  answer_on budget f None m (k, n, s) = (j + k, omega arith, s ∙ rest_is k)
+  answer_on budget f None m (k, n, h) =
+      let all : HasRun wider better d (j + k) f = record {
+        fits = fits_on wider better d j (wider_fits most wider better d j l first.fits) k
+            (subst (λ (w : Dictionary). FitsThrough wider better w k) first.stands h.fits);
+        stands = h.stands ∙ rest_is k;
+      } in (j + k, omega arith, all)
   answer_on budget f (Some o) m h = come_on budget f o m h
 
   pub fault_on : (budget : ℕ) (f : Dictionary) (o : Option Outcome) → j ≤ budget

@@ -7,8 +7,8 @@ use Rattle.core_run.specs.declared.end.RunFault.{RunFault}
 use Rattle.core_run.specs.declared.end.RunFault.TheVariants as fault
 use Rattle.core_run.specs.declared.turn.Step.{Step}
 use Rattle.core_run.specs.declared.turn.Step.TheVariants as step
-use Rattle.core_run.specs.Run.{Turn, Best, NoSolution, PivotOn, Pivots, turn, next, run}
-use Rattle.core_run.specs.Widths.{RatioLeaves, TurnLeaves, FitsThrough, Ended}
+use Rattle.core_run.specs.Run.{Turn, Best, NoSolution, PivotOn, Pivots, turn, next}
+use Rattle.core_run.specs.Widths.{RatioLeaves, TurnLeaves, Ended}
 use Rattle.core_run.specs.Answers.{outcome_of}
 
 -- the turn after k pivots ends the run, and is the end that is answered
@@ -40,8 +40,3 @@ HasTurned most better d k e (Err (fault.TooWide n)) =
     (e ≡ d) × (n ≡ k + 1) × TurnLeaves most d (turn better d)
 HasTurned most better d k e (Err (fault.Spent b)) = ⊥
 HasTurned most better d k e (Err fault.NoMemory) = e ≡ d
-
--- k whole pivots of d, which all fit, have left e
-pub record HasRun (most : ℕ) (better : Preference) (d : Dictionary) (k : ℕ) (e : Dictionary) : Type 0 where
-  pub fits : FitsThrough most better d k
-  pub stands : e ≡ run better d k

@@ -3,7 +3,7 @@ ghost use Rattle.std.specs.Prelude.{◌≡◌, ◌+◌, ◌<◌};
 ghost use Rattle.core_rules.specs.Candidates.{before};
 ghost use Rattle.core_rules.specs.Rules.{Keeps, rule_view};
 ghost use Rattle.core_run.specs.Choice.{leaving_row as leaving_row_of};
-ghost use Rattle.core_run.specs.Kept.{HasKeptRow};
+ghost use Rattle.core_run.specs.SoFar.{IsRowSoFar};
 ghost use Rattle.core_run.specs.Ranked.{AreRanked};
 
 use crate::signs::is_negative;
@@ -13,7 +13,7 @@ use exact_frac::Exact;
 
 /// A row that may leave, by its position from 0, with its basic variable and its value.
 #[derive(Clone, Copy)]
-pub struct KeptRow {
+pub struct RowSoFar {
     row: usize,
     cand: Cand,
 }
@@ -27,39 +27,39 @@ pub fn leaving_row<'a, E: Exact, D: Store<E>, F: Fn(&Cand, &Cand) -> bool>(
     requires ranked { AreRanked (rule_view rule.now) (D.dictionary dict.now) }
     ensures { result ≡ leaving_row_of (before (rule_view rule.now)) (D.dictionary dict.now) }
 {
-    let mut kept = None;
+    let mut so_far = None;
     for row in 0..dict.rows() {
-        kept = row_kept_after(dict, rule, row, kept);
+        so_far = row_after(dict, rule, row, so_far);
     }
-    kept.map(|k: KeptRow| k.row)
+    so_far.map(|k: RowSoFar| k.row)
 }
 
-// What is kept after one more row.
-fn row_kept_after<'a, E: Exact, D: Store<E>, F: Fn(&Cand, &Cand) -> bool>(
+// The row so far, after one more row.
+fn row_after<'a, E: Exact, D: Store<E>, F: Fn(&Cand, &Cand) -> bool>(
     dict: &D,
     rule: &Rule<'a, F>,
     row: usize,
-    kept: Option<KeptRow>,
-) -> Option<KeptRow>
+    so_far: Option<RowSoFar>,
+) -> Option<RowSoFar>
     requires keeps { Keeps F.pre F.post rule.now }
     requires ranked { AreRanked (rule_view rule.now) (D.dictionary dict.now) }
     requires row_in { row < (D.dictionary dict.now).rows }
-    requires kept { HasKeptRow (before (rule_view rule.now)) (D.dictionary dict.now) row kept }
-    ensures { HasKeptRow (before (rule_view rule.now)) (D.dictionary dict.now) (row + 1) result }
+    requires so_far { IsRowSoFar (before (rule_view rule.now)) (D.dictionary dict.now) row so_far }
+    ensures { IsRowSoFar (before (rule_view rule.now)) (D.dictionary dict.now) (row + 1) result }
 {
     let value = dict.value(row);
     if !is_negative(value) {
-        return kept;
+        return so_far;
     }
     let cand = Cand {
         var: dict.basic(row),
         value: value.wide(),
     };
-    let Some(held) = kept else {
-        return Some(KeptRow { row, cand });
+    let Some(held) = so_far else {
+        return Some(RowSoFar { row, cand });
     };
     if rule.prefers(&held.cand, &cand) {
-        Some(KeptRow { row, cand })
+        Some(RowSoFar { row, cand })
     } else {
         Some(held)
     }

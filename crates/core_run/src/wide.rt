@@ -1,6 +1,7 @@
 // A run that is made at 64 bits as far as it fits them, and then at 128.
-ghost use Rattle.std.specs.Prelude.{◌≡◌, ◌≢◌, ◌+◌, ◌-◌, ◌^◌, ◌≤◌, ◌<◌, Ok, Err};
+ghost use Rattle.std.specs.Prelude.{◌≡◌, ◌≢◌, ◌+◌, ◌^◌, ◌≤◌, ◌<◌, Ok, Err};
 ghost use Rattle.std.specs.Prelude.{IfOk, IfErr, IfSome, option_map};
+ghost use Rattle.core_sums.specs.Widths.{most, most64};
 ghost use Rattle.core_dict.specs.Dictionary.{Dictionary, CostsNotNegative, start};
 ghost use Rattle.core_rules.specs.Candidates.{before};
 ghost use Rattle.core_rules.specs.Rules.{rule_view, Keeps};
@@ -8,8 +9,7 @@ ghost use Rattle.core_run.specs.Answers.{outcome_of, IsAnswer};
 ghost use Rattle.core_run.specs.Counts.{pivots_named};
 ghost use Rattle.core_run.specs.Laws.{after};
 ghost use Rattle.core_run.specs.Ranked.{AreRanked, GoesByVariable};
-ghost use Rattle.core_run.specs.Steps.{HasRun};
-ghost use Rattle.core_run.specs.Widths.{ComesTo};
+ghost use Rattle.core_run.specs.Widths.{ComesTo, HasRun};
 
 use crate::{End, RunFault, run};
 use core_dict::{Programme, Store, Widen};
@@ -43,11 +43,11 @@ pub fn run_wide<'a, N: Widen<W>, W: Store<Frac128>, F: Fn(&Cand, &Cand) -> bool>
     requires keeps { Keeps F.pre F.post rule.now }
     requires ranked { AreRanked (rule_view rule.now) (start programme.now) }
     ensures ended { let better = before (rule_view rule.now) in
-        IfOk result (λ r. IsAnswer (2 ^ 127 - 1) better (start programme.now) budget
+        IfOk result (λ r. IsAnswer most better (start programme.now) budget
         (W.dictionary r.dict) (outcome_of (Ok r.end))) }
     ensures fault { let better = before (rule_view rule.now) in
         IfErr result (λ f. IfSome (outcome_of (Err f))
-        (ComesTo (2 ^ 127 - 1) better (start programme.now) budget)) }
+        (ComesTo most better (start programme.now) budget)) }
     ensures spent { (b : _) → result ≡ Err (RunFault.Spent b) → b ≡ budget }
     ensures serves { let d = start programme.now in GoesByVariable (rule_view rule.now) d
         → 2 ^ (d.rows + d.cols) ≤ budget → (b : _) → result ≢ Err (RunFault.Spent b) }
@@ -92,12 +92,12 @@ fn go_on<'a, N: Widen<W>, W: Store<Frac128>, F: Fn(&Cand, &Cand) -> bool>(
     requires keeps { Keeps F.pre F.post rule.now }
     requires ranked { AreRanked (rule_view rule.now) (N.dictionary narrow.now) }
     ensures ended { (d : Dictionary) → let better = before (rule_view rule.now) in
-        HasRun (2 ^ 62) better d made (N.dictionary narrow.now)
-        → IfOk result (λ r. IsAnswer (2 ^ 127 - 1) better d budget
+        HasRun most64 better d made (N.dictionary narrow.now)
+        → IfOk result (λ r. IsAnswer most better d budget
         (W.dictionary r.dict) (outcome_of (Ok r.end))) }
     ensures fault { (d : Dictionary) → let better = before (rule_view rule.now) in
-        HasRun (2 ^ 62) better d made (N.dictionary narrow.now)
-        → IfErr result (λ f. IfSome (outcome_of (Err f)) (ComesTo (2 ^ 127 - 1) better d budget)) }
+        HasRun most64 better d made (N.dictionary narrow.now)
+        → IfErr result (λ f. IfSome (outcome_of (Err f)) (ComesTo most better d budget)) }
     ensures spent { (b : _) → result ≡ Err (RunFault.Spent b) → b ≡ budget }
 {
     let Ok(mut dict) = narrow.widen(alloc) else {

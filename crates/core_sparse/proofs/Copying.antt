@@ -3,7 +3,7 @@ use Rattle.std.proofs.Common.{◌≡◌, ◌≢◌, ℕ, suc, ◌<◌, ◌≤◌
 use Rattle.std.proofs.Common.{List, length, get_or, sym, ◌∙◌, subst, refl, arith}
 use Rattle.std.proofs.lemmas.Bool.{cases_eq, cases_lt}
 use Rattle.fractions.specs.Fraction.{Fraction}
-use Rattle.core_sparse.specs.Items.{columns, col_at, number, IsRising, IsWithin128, Stands}
+use Rattle.core_sparse.specs.Items.{columns, col_at, number, IsRising, AreItems, Stands}
 use Rattle.core_sparse.specs.Steps.{AreBefore, IsCopied}
 use Rattle.core_sparse.specs.SparseLaw.{number_none}
 use Rattle.core_sparse.specs.declared.row.Item.{Item}
@@ -38,7 +38,7 @@ module _ {E : Type 0} (read : E → Fraction) (n : ℕ) (xs : List (Item E)) whe
           ∙ sym (number_between xs read c e r h.stands stands j p o)
 
   -- as it does at the beginning
-  pub copied_first : (ys : List (Item E)) (from until e r : ℕ) → IsRising xs → IsWithin128 read n ys → AreBefore from ys
+  pub copied_first : (ys : List (Item E)) (from until e r : ℕ) → IsRising xs → AreItems read n ys → AreBefore from ys
       → Stands xs from e → from ≤ until → r ≡ min (get_or (columns xs) e until) until
       → IsCopied read n xs from r ys ys e
   copied_first ys from until e r rising kept below stands l is =
@@ -55,7 +55,7 @@ module _ {E : Type 0} (read : E → Fraction) (n : ℕ) (xs : List (Item E)) whe
 
   -- one more item is copied
   pub copied_more : (ys zs ws : List (Item E)) (from j e e' : ℕ) → IsCopied read n xs from j ys zs e
-      → Stands xs (suc j) e' → IsWithin128 read n ws → ((k : ℕ) → k < length ws → col_at ws k ≤ j)
+      → Stands xs (suc j) e' → AreItems read n ws → ((k : ℕ) → k < length ws → col_at ws k ≤ j)
       → number read ws j ≡ number read xs j → ((m : ℕ) → m ≢ j → number read ws m ≡ number read zs m)
       → IsCopied read n xs from (suc j) ys ws e'
   copied_more ys zs ws from j e e' h stands kept below here others = record {

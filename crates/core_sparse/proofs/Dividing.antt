@@ -12,7 +12,7 @@ use Rattle.fractions.proofs.Laws.{*ℚ-inverse}
 use Rattle.core_dict.specs.Rows.{divided_entry}
 use Rattle.core_dict.proofs.Choice.{at_equal, at_other}
 use Rattle.core_dict.proofs.Reading.{zero_divided}
-use Rattle.core_sparse.specs.Items.{columns, col_at, value_at, number, IsRising, IsWithin128}
+use Rattle.core_sparse.specs.Items.{columns, col_at, value_at, number, IsRising, AreItems}
 use Rattle.core_sparse.specs.Steps.{entry_of, divided_value, AreDivided, IsOwnAfter, OwnRowLeaves, Entry, OwnValue}
 use Rattle.core_sparse.specs.SparseLaw.{number_none}
 use Rattle.core_sparse.specs.declared.row.Item.{Item}
@@ -72,7 +72,7 @@ module _ {E : Type 0} (read : E → Fraction) (s : ℕ) (p : Fraction) (xs ys : 
 
 -- ---- the whole row
 module _ {E : Type 0} (read : E → Fraction) (n s : ℕ) (xs : List (Item E)) (p : Fraction) (turns : p ≢ zero_q)
-    (kept : IsWithin128 read n xs) (pivot : p ≡ number read xs s) where
+    (kept : AreItems read n xs) (pivot : p ≡ number read xs s) where
   -- a number that is divided
   divided_here : (k : ℕ) → k < length xs → divided_value read s xs k ≡ divided_entry s (number read xs) (col_at xs k)
   divided_here k l =
@@ -126,7 +126,7 @@ module _ {E : Type 0} (read : E → Fraction) (n s : ℕ) (xs : List (Item E)) (
         let f : col_at ys k ≡ col_at xs k = col k in
         omega arith
 
-    pub divided_kept : IsWithin128 read n ys
+    pub divided_kept : AreItems read n ys
     divided_kept = record {
       cols = λ k l. subst (λ (c : ℕ). c < n) (sym (col k)) (kept.cols k (in_xs k l));
       rising = rising;
@@ -149,7 +149,7 @@ module _ {E : Type 0} (read : E → Fraction) (n s : ℕ) (xs : List (Item E)) (
 
 -- where no quotient of the items and of the value leaves, none of the row does
 pub no_own_leaves : {E : Type 0} (read : E → Fraction) (n s : ℕ) (x : Row E) (p : Fraction) → p ≢ zero_q
-    → IsWithin128 read n x.items.items → p ≡ entry_of read x s → (most : ℕ)
+    → AreItems read n x.items.items → p ≡ entry_of read x s → (most : ℕ)
     → ((k : ℕ) → k < length x.items.items → OverLeaves most (divided_value read s x.items.items k) p → ⊥)
     → (OverLeaves most (read x.value) p → ⊥) → OwnRowLeaves most read n s x → ⊥
 no_own_leaves read n s x p turns kept pivot most fits value (Entry j l h) =

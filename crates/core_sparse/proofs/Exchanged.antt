@@ -16,7 +16,7 @@ use Rattle.core_dict.proofs.Holding.{have_variables}
 use Rattle.core_dict.proofs.Outside.{same_from_Agree, IsZeroOutside_pivot}
 use Rattle.fractions.proofs.LessTimes.{zero_less}
 use Rattle.core_dict.proofs.Variables.{HasVariables_pivot}
-use Rattle.core_sparse.specs.Items.{number, IsWithin128}
+use Rattle.core_sparse.specs.Items.{number, AreItems}
 use Rattle.core_sparse.specs.Steps.{entry_of, AreKept, IsMarked, IsPut, IsExchanged}
 use Rattle.core_sparse.specs.Sparse.{rows_of, entry_of_row, value_of_row, tableau, IsPrepared}
 use Rattle.core_sparse.specs.SparseLaw.{slot_entries, slot_value, entries_at, value_of_at, tableau_outside}
@@ -48,7 +48,7 @@ other_entry-unchanged d r s j a e = by (cases_eq j s)
 
 module _ {E : Type 0} (read : E → Fraction) (r s : ℕ) (xs : List (Slot E)) (costs : List (Item E))
     (basic nonbasic : List ℕ) (same : length xs ≡ length basic) (kept : AreKept read (length nonbasic) xs)
-    (costs_kept : IsWithin128 read (length nonbasic) costs) (lr : r < length basic) (ls : s < length nonbasic)
+    (costs_kept : AreItems read (length nonbasic) costs) (lr : r < length basic) (ls : s < length nonbasic)
     (turns : entry_of_row read (rows_of xs) r s ≢ zero_q) (own : Row E) (spare : List (Item E))
     (prepared : IsPrepared read r s xs costs basic nonbasic own spare) (x w : Slot E) (at : x ≡ get_or xs r x)
     (row_is : w.row ≡ x.row) (room_is : w.spare ≡ own) (ys : List (Slot E)) (long : length ys ≡ length xs)
@@ -98,23 +98,23 @@ module _ {E : Type 0} (read : E → Fraction) (r s : ℕ) (xs : List (Slot E)) (
       in_basic = subst (λ (n : ℕ). k < n) same in_xs
 
       at_other_row : k ≢ r → (entry_of read (get_or xs k z).row s ≢ zero_q) ⊎ (entry_of read (get_or xs k z).row s ≡ zero_q)
-          → IsWithin128 read (length nonbasic) (get_or ys k z).row.items.items
-      at_other_row ne (inl e) = subst (λ (y : Row E). IsWithin128 read (length nonbasic) y.items.items)
+          → AreItems read (length nonbasic) (get_or ys k z).row.items.items
+      at_other_row ne (inl e) = subst (λ (y : Row E). AreItems read (length nonbasic) y.items.items)
           (sym ((other k z in_xs ne).row e))
           (prepared.kept k z in_basic ne (λ f. e (before k z in_basic ∙ f)))
-      at_other_row ne (inr e) = subst (λ (y : Row E). IsWithin128 read (length nonbasic) y.items.items)
+      at_other_row ne (inr e) = subst (λ (y : Row E). AreItems read (length nonbasic) y.items.items)
           (sym ((other k z in_xs ne).same e)) (kept k z in_xs)
 
-      by : (k ≡ r) ⊎ (k ≢ r) → IsWithin128 read (length nonbasic) (get_or ys k z).row.items.items
-      by (inl e) = subst (λ (i : ℕ). IsWithin128 read (length nonbasic) (get_or ys i z).row.items.items) (sym e)
-          (subst (λ (y : Row E). IsWithin128 read (length nonbasic) y.items.items) (sym (own_row z)) prepared.own_kept)
+      by : (k ≡ r) ⊎ (k ≢ r) → AreItems read (length nonbasic) (get_or ys k z).row.items.items
+      by (inl e) = subst (λ (i : ℕ). AreItems read (length nonbasic) (get_or ys i z).row.items.items) (sym e)
+          (subst (λ (y : Row E). AreItems read (length nonbasic) y.items.items) (sym (own_row z)) prepared.own_kept)
       by (inr ne) = at_other_row ne (turns_or_not (entry_of read (get_or xs k z).row s))
 
   -- and those of the costs
-  pub costs_kept_after : IsWithin128 read (length nonbasic) last
+  pub costs_kept_after : AreItems read (length nonbasic) last
   costs_kept_after = elim (turns_or_not (number read costs s)) [
-    | inl e ↦ subst (IsWithin128 read (length nonbasic)) (sym (changed e)) (prepared.costs_kept e)
-    | inr e ↦ subst (IsWithin128 read (length nonbasic)) (sym (stays e)) costs_kept
+    | inl e ↦ subst (AreItems read (length nonbasic)) (sym (changed e)) (prepared.costs_kept e)
+    | inr e ↦ subst (AreItems read (length nonbasic)) (sym (stays e)) costs_kept
   ]
 
   -- what each number is
@@ -208,7 +208,7 @@ module _ {E : Type 0} (read : E → Fraction) (r s : ℕ) (xs : List (Slot E)) (
         same_from_Agree (tableau read (rows_of ys) last (set basic r b) (set nonbasic s n)) (pivot d r s)
         (tableau_outside read ys last (set basic r b) (set nonbasic s n) (long ∙ same ∙ sym (length-set basic r b))
         (subst (λ (m : ℕ). AreKept read m ys) (sym (length-set nonbasic s n)) kept_after)
-        (subst (λ (m : ℕ). IsWithin128 read m last) (sym (length-set nonbasic s n)) costs_kept_after))
+        (subst (λ (m : ℕ). AreItems read m last) (sym (length-set nonbasic s n)) costs_kept_after))
         (IsZeroOutside_pivot d r s lr ls (tableau_outside read xs costs basic nonbasic same kept costs_kept))
         record {
           rows = length-set basic r b;

@@ -1,14 +1,14 @@
 -- The items of a programme's row, pushed column by column.
 use Rattle.std.proofs.Common.{◌≡◌, ◌≢◌, ℕ, ◌+◌, ◌<◌, ◌≤◌, List, [], length, sym, ◌∙◌, subst, arith, below_more}
 use Rattle.fractions.specs.Fraction.{Fraction}
-use Rattle.core_sparse.specs.Items.{col_at, number, IsWithin128}
+use Rattle.core_sparse.specs.Items.{col_at, number, AreItems}
 use Rattle.core_sparse.specs.declared.row.Item.{Item}
 use Rattle.core_sparse.proofs.Places.{kept_none}
 
 module _ {E : Type 0} (read : E → Fraction) (n : ℕ) (a : ℕ → Fraction) where
   -- the numbers a of the first j of n columns are kept
   pub record Filled (zs : List (Item E)) (j : ℕ) : Type 0 where
-    pub kept : IsWithin128 read n zs
+    pub kept : AreItems read n zs
     pub below : (k : ℕ) → k < length zs → col_at zs k < j
     pub numbers : (m : ℕ) → m < j → number read zs m ≡ a m
 
@@ -19,7 +19,7 @@ module _ {E : Type 0} (read : E → Fraction) (n : ℕ) (a : ℕ → Fraction) w
     numbers = λ m l. absurd (omega (arith, l));
   }
 
-  pub filled_more : (ys zs : List (Item E)) (j : ℕ) → Filled ys j → IsWithin128 read n zs
+  pub filled_more : (ys zs : List (Item E)) (j : ℕ) → Filled ys j → AreItems read n zs
       → ((k : ℕ) → k < length zs → col_at zs k ≤ j) → number read zs j ≡ a j
       → ((m : ℕ) → m ≢ j → number read zs m ≡ number read ys m) → Filled zs (j + 1)
   filled_more ys zs j h kept below here others = record {

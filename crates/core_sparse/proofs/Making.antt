@@ -3,7 +3,7 @@ use Rattle.std.proofs.Common.{◌≡◌, ◌≢◌, ℕ, ◌+◌, ◌<◌, ◌�
 use Rattle.std.proofs.Math.Seq.{map-set_same}
 use Rattle.std.proofs.lemmas.List.{get_or-set_same, get_or-set_other, get_or-map, get_or_default, length-map}
 use Rattle.fractions.specs.Fraction.{Fraction}
-use Rattle.core_sparse.specs.Items.{IsWithin128}
+use Rattle.core_sparse.specs.Items.{AreItems}
 use Rattle.core_sparse.specs.Sparse.{rows_of}
 use Rattle.core_sparse.specs.Steps.{AreKept, IsMade, RowLeaves, IsPut}
 use Rattle.core_sparse.specs.declared.row.Row.{Row}
@@ -24,7 +24,7 @@ pub kept_same : {E : Type 0} (read : E → Fraction) (n : ℕ) (xs ys : List (Sl
 kept_same {E} read n xs ys e h k x l =
     let row : Slot E → Row E = λ x. x.row in
     let m : length xs ≡ length ys = sym (length-map xs row) ∙ ap length e ∙ length-map ys row in
-    subst (λ (y : Row E). IsWithin128 read n y.items.items) (sym (same_row xs ys k x e l))
+    subst (λ (y : Row E). AreItems read n y.items.items) (sym (same_row xs ys k x e l))
     (h k x (subst (λ (j : ℕ). k < j) m l))
 
 module _ {E : Type 0} (most : ℕ) (read : E → Fraction) (n : ℕ) (p : Fraction) (s : ℕ) (own : Row E) (row : ℕ)

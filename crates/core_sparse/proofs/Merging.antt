@@ -6,7 +6,7 @@ use Rattle.fractions.specs.Fraction.{Fraction, zero_q}
 use Rattle.fractions.specs.Leaves.{LessTimesLeaves}
 use Rattle.core_dict.proofs.Choice.{at_other}
 use Rattle.fractions.proofs.LessTimes.{less_zero, no_leaving}
-use Rattle.core_sparse.specs.Items.{columns, col_at, number, IsRising, IsWithin128, Stands}
+use Rattle.core_sparse.specs.Items.{columns, col_at, number, IsRising, AreItems, Stands}
 use Rattle.core_sparse.specs.Steps.{merged, IsCopied}
 use Rattle.core_sparse.specs.declared.row.Item.{Item}
 use Rattle.core_sparse.proofs.Places.{kept_none}
@@ -17,7 +17,7 @@ module _ {E : Type 0} (most : ℕ) (read : E → Fraction) (n : ℕ) (xs os : Li
   pub record Merged (ys : List (Item E)) (j i k : ℕ) : Type 0 where
     pub before : Stands xs j i
     pub own : Stands os j k
-    pub kept : IsWithin128 read n ys
+    pub kept : AreItems read n ys
     pub below : (m : ℕ) → m < length ys → col_at ys m < j
     pub exact : (m : ℕ) → m < j → number read ys m ≡ merged s q t (number read xs) (number read os) m
     pub fits : (m : ℕ) → m < j → m ≢ s → LessTimesLeaves most (number read xs m) q (number read os m) → ⊥
@@ -67,7 +67,7 @@ module _ {E : Type 0} (most : ℕ) (read : E → Fraction) (n : ℕ) (xs os : Li
 
   -- one more column is merged
   pub merged_more : (ys zs : List (Item E)) (j i k i' k' : ℕ) → Merged ys j i k → Stands xs (suc j) i'
-      → Stands os (suc j) k' → IsWithin128 read n zs → ((m : ℕ) → m < length zs → col_at zs m ≤ j)
+      → Stands os (suc j) k' → AreItems read n zs → ((m : ℕ) → m < length zs → col_at zs m ≤ j)
       → number read zs j ≡ merged s q t (number read xs) (number read os) j
       → ((m : ℕ) → m ≢ j → number read zs m ≡ number read ys m)
       → (j ≢ s → LessTimesLeaves most (number read xs j) q (number read os j) → ⊥) → Merged zs (suc j) i' k'

@@ -10,7 +10,7 @@ use Rattle.core_dict.specs.DenseLaw.{some_of}
 use Rattle.core_dict.specs.Shift.{shifted, ShiftLeaves}
 use Rattle.core_dict.specs.Shift as shift
 use Rattle.core_dict.proofs.Outside.{same_from_Agree, IsZeroOutside_shifted}
-use Rattle.core_sparse.specs.Items.{number, IsWithin128}
+use Rattle.core_sparse.specs.Items.{number, AreItems}
 use Rattle.core_sparse.specs.Steps.{AreKept}
 use Rattle.core_sparse.specs.Moved.{StandsIn, coefficient_of, MoveLeaves, Product, Sum, ValueLeaves, IsMoved, IsPlaced}
 use Rattle.core_sparse.specs.Sparse.{rows_of, tableau}
@@ -94,7 +94,7 @@ module _ {E : Type 0} (before : List (Slot E)) where
 
 module _ {E : Type 0} (most : ℕ) (read : E → Fraction) (v s : ℕ) (by : ℤ) (xs : List (Slot E)) (costs : List (Item E))
     (basic nonbasic : List ℕ) (same : length xs ≡ length basic) (kept : AreKept read (length nonbasic) xs)
-    (costs_kept : IsWithin128 read (length nonbasic) costs) (column : StandsIn nonbasic v s) where
+    (costs_kept : AreItems read (length nonbasic) costs) (column : StandsIn nonbasic v s) where
   abbrev d : Dictionary
   d = tableau read (rows_of xs) costs basic nonbasic
 
@@ -171,4 +171,4 @@ pub kept_placed : {E : Type 0} (read : E → Fraction) (n : ℕ) (xs ys : List (
     → AreKept read n ys
 kept_placed read n xs ys long placed kept k x l =
     let m : k < length xs = subst (λ (i : ℕ). k < i) long l in
-    subst (λ zs. IsWithin128 read n zs.items) (sym (placed k x m).items) (kept k x m)
+    subst (λ zs. AreItems read n zs.items) (sym (placed k x m).items) (kept k x m)

@@ -5,7 +5,7 @@ use Rattle.std.proofs.lemmas.List.{get_or_past, length-map}
 use Rattle.fractions.specs.Fraction.{Fraction}
 use Rattle.core_dict.specs.NextEntry.{AreZero, IsFirstEntry}
 use Rattle.core_dict.specs.declared.store.RowEntry.{RowEntry}
-use Rattle.core_sparse.specs.Items.{columns, col_at, value_at, number, IsRising, IsWithin128, Stands}
+use Rattle.core_sparse.specs.Items.{columns, col_at, value_at, number, IsRising, AreItems, Stands}
 use Rattle.core_sparse.specs.SparseLaw.{number_none}
 use Rattle.core_sparse.specs.declared.row.Item.{Item}
 use Rattle.core_sparse.proofs.Places.{number_here}
@@ -26,7 +26,7 @@ module _ {E : Type 0} (xs : List (Item E)) (c i r : ℕ) (h : IsRising xs) (is :
           get_or_past (columns xs) i c (subst (λ (n : ℕ). n ≤ i) (sym (length-map xs (λ (x : Item E). x.col))) p) in
           absurd (omega arith)
 
-module _ {E : Type 0} (read : E → Fraction) (xs : List (Item E)) (n from i : ℕ) (h : IsWithin128 read n xs)
+module _ {E : Type 0} (read : E → Fraction) (xs : List (Item E)) (n from i : ℕ) (h : AreItems read n xs)
     (s : Stands xs from i) where
   -- the item at which a walk stands is the first
   pub item_here : (x : RowEntry E) → i < length xs → x.col ≡ col_at xs i → read x.value ≡ value_at read xs i

@@ -6,7 +6,7 @@ use Rattle.fractions.specs.Fraction.{Fraction, zero_q, ◌-ℚ◌, ◌*ℚ◌, �
 use Rattle.fractions.specs.Leaves.{OverLeaves, LessTimesLeaves}
 use Rattle.core_dict.specs.Rows.{EntriesLeave, Less}
 use Rattle.core_dict.proofs.Outcomes.{leaves_same, no_entry}
-use Rattle.core_sparse.specs.Items.{number, IsWithin128}
+use Rattle.core_sparse.specs.Items.{number, AreItems}
 use Rattle.fractions.proofs.LessTimes.{no_leaving}
 use Rattle.core_sparse.specs.Steps.{merged, entry_of, AreAfter, RowLeaves, Entries, Value}
 use Rattle.core_sparse.specs.declared.row.Item.{Item}
@@ -53,7 +53,7 @@ module _ {E : Type 0} (most : ℕ) (read : E → Fraction) (n : ℕ) (xs os us v
       (leaves_same (ap (λ (zs : List (Item E)). number read zs j) (sym e)) (sym is)
       (ap (λ (zs : List (Item E)). number read zs j) (sym f)) h))
 
-  pub merge_exact : (t : Fraction) → t ≡ neg_ℚ (q /ℚ p) → (zs : List (Item E)) → IsWithin128 read n zs
+  pub merge_exact : (t : Fraction) → t ≡ neg_ℚ (q /ℚ p) → (zs : List (Item E)) → AreItems read n zs
       → ((j : ℕ) → j < n → number read zs j ≡ merged s q t (number read us) (number read vs) j)
       → AreAfter read n p s os xs zs
   merge_exact t turned zs kept exact = record {

@@ -5,7 +5,7 @@ use Rattle.std.proofs.lemmas.Bool.{cases_eq, cases_lt}
 use Rattle.std.proofs.lemmas.List.{get_or-map, length_push}
 use Rattle.fractions.specs.Fraction.{Fraction, zero_q}
 use Rattle.core_dict.proofs.Choice.{at_same, at_other}
-use Rattle.core_sparse.specs.Items.{col_at, value_at, number, IsRising, IsWithin128, AreItemsOf}
+use Rattle.core_sparse.specs.Items.{col_at, value_at, number, IsRising, AreItems, AreItemsOf}
 use Rattle.core_sparse.specs.SparseLaw.{number_none}
 use Rattle.core_sparse.specs.declared.row.Item.{Item}
 
@@ -131,8 +131,8 @@ module _ {E : Type 0} (read : E → Fraction) where
       apart : x.col ≢ y.col
       apart e = omega (arith, before, e)
 
-  pub kept_pushed : (n : ℕ) (xs : List (Item E)) (y : Item E) → IsWithin128 read n xs → y.col < n
-      → ((k : ℕ) → k < length xs → col_at xs k < y.col) → read y.value ≢ zero_q → IsWithin128 read n (xs ++ y ∷ [])
+  pub kept_pushed : (n : ℕ) (xs : List (Item E)) (y : Item E) → AreItems read n xs → y.col < n
+      → ((k : ℕ) → k < length xs → col_at xs k < y.col) → read y.value ≢ zero_q → AreItems read n (xs ++ y ∷ [])
   kept_pushed n xs y h within below turns = record {
     cols = λ k l. col k (old_or_last xs y k l);
     rising = rising_pushed xs y h.rising below;
@@ -148,7 +148,7 @@ module _ {E : Type 0} (read : E → Fraction) where
       value k (inr m) e = turns (sym (value_last xs y k m) ∙ e)
 
   -- a row without items
-  pub kept_none : (n : ℕ) → IsWithin128 read n []
+  pub kept_none : (n : ℕ) → AreItems read n []
   kept_none n = record {
     cols = λ k l. absurd (omega arith);
     rising = λ i k l m. absurd (omega arith);
@@ -156,7 +156,7 @@ module _ {E : Type 0} (read : E → Fraction) where
   }
 
   -- the items are those of the numbers
-  pub items_of : (n : ℕ) (xs : List (Item E)) → IsWithin128 read n xs → AreItemsOf read n (number read xs) xs
+  pub items_of : (n : ℕ) (xs : List (Item E)) → AreItems read n xs → AreItemsOf read n (number read xs) xs
   items_of n xs h = record {
     rising = h.rising;
     cols = h.cols;

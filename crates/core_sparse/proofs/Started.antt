@@ -6,7 +6,7 @@ use Rattle.core_dict.specs.Dictionary.{start}
 use Rattle.core_dict.proofs.Outside.{same_from_Agree, start_outside}
 use Rattle.core_dict.proofs.Variables.{start-basic, start-nonbasic}
 use Rattle.core_dict.specs.DenseLaw.{some_of}
-use Rattle.core_sparse.specs.Items.{number, IsWithin128}
+use Rattle.core_sparse.specs.Items.{number, AreItems}
 use Rattle.core_sparse.specs.Steps.{AreStartRows}
 use Rattle.core_sparse.specs.Sparse.{rows_of, tableau}
 use Rattle.core_sparse.specs.SparseLaw.{slot_entries, slot_value, tableau_outside}
@@ -23,14 +23,14 @@ one_more j = omega arith
 pub start_tableau : (p : ProgrammeView) (basic nonbasic : List ℕ) → length basic ≡ height p
     → length nonbasic ≡ p.cols → ((i : ℕ) → i < height p → get_or basic i 0 ≡ p.cols + 1 + i)
     → ((j : ℕ) → j < p.cols → get_or nonbasic j 0 ≡ 1 + j) → {E : Type 0} (read : E → Fraction)
-    (xs : List (Slot E)) (costs : List (Item E)) → IsProgramme p → AreStartRows read p xs → IsWithin128 read p.cols costs
+    (xs : List (Slot E)) (costs : List (Item E)) → IsProgramme p → AreStartRows read p xs → AreItems read p.cols costs
     → ((j : ℕ) → number read costs j ≡ cond (eqb (suc j) p.cols) one_q zero_q)
     → tableau read (rows_of xs) costs basic nonbasic ≡ start p
 start_tableau p basic nonbasic m n bs ns {E} read xs costs h rows kept cs =
     same_from_Agree (tableau read (rows_of xs) costs basic nonbasic) (start p)
     (tableau_outside read xs costs basic nonbasic (rows.rows ∙ sym m)
-    (λ k x l. subst (λ (z : ℕ). IsWithin128 read z (get_or xs k x).row.items.items) (sym n) (rows.each k x l).kept)
-    (subst (λ (z : ℕ). IsWithin128 read z costs) (sym n) kept))
+    (λ k x l. subst (λ (z : ℕ). AreItems read z (get_or xs k x).row.items.items) (sym n) (rows.each k x l).kept)
+    (subst (λ (z : ℕ). AreItems read z costs) (sym n) kept))
     (start_outside p h) record {
       rows = m;
       cols = n;

@@ -5,7 +5,7 @@ use Rattle.std.proofs.lemmas.List.{length-map, map-append, take_more}
 use Rattle.fractions.specs.Fraction.{Fraction, zero_q}
 use Rattle.core_dict.proofs.Outside.{same_from_Agree}
 use Rattle.core_dict.specs.DenseLaw.{some_of}
-use Rattle.core_sparse.specs.Items.{columns, col_at, number, IsWithin128}
+use Rattle.core_sparse.specs.Items.{columns, col_at, number, AreItems}
 use Rattle.core_sparse.specs.Steps.{AreKept, AreSame, IsWidened}
 use Rattle.core_sparse.specs.Sparse.{rows_of, tableau}
 use Rattle.core_sparse.specs.SparseLaw.{slot_entries, slot_value, tableau_outside}
@@ -55,8 +55,8 @@ module _ {A B : Type 0} (from : A → Fraction) (to : B → Fraction) where
       ∙ ap (λ (r : Fraction). cond (eqb x.col j) (from x.value) r) (same_number xs ys cs qs j)
 
   -- which are kept as well
-  same_kept : (n : ℕ) (xs : List (Item A)) (ys : List (Item B)) → AreSame from to xs ys → IsWithin128 from n xs
-      → IsWithin128 to n ys
+  same_kept : (n : ℕ) (xs : List (Item A)) (ys : List (Item B)) → AreSame from to xs ys → AreItems from n xs
+      → AreItems to n ys
   same_kept n xs ys h kept = record {
     cols = λ k l. subst (λ (c : ℕ). c < n) (sym (col k)) (kept.cols k (in_xs k l));
     rising = λ i k l m. let r : col_at xs i < col_at xs k = kept.rising i k l (in_xs k m) in
@@ -76,7 +76,7 @@ module _ {A B : Type 0} (from : A → Fraction) (to : B → Fraction) where
 
   module _ (xs : List (Slot A)) (ys : List (Slot B)) (costs : List (Item A)) (wide_costs : List (Item B))
       (basic nonbasic : List ℕ) (same : length xs ≡ length basic) (kept : AreKept from (length nonbasic) xs)
-      (costs_kept : IsWithin128 from (length nonbasic) costs) (rows : length ys ≡ length xs)
+      (costs_kept : AreItems from (length nonbasic) costs) (rows : length ys ≡ length xs)
       (each : (k : ℕ) (y : Slot B) (x : Slot A) → k < length xs → IsWidened from to (get_or xs k x) (get_or ys k y))
       (last : AreSame from to costs wide_costs) where
     pub widened_kept : AreKept to (length nonbasic) ys
@@ -86,7 +86,7 @@ module _ {A B : Type 0} (from : A → Fraction) (to : B → Fraction) where
         same_kept (length nonbasic) (get_or xs k x).row.items.items (get_or ys k y).row.items.items
         (each k y x in_xs).items (kept k x in_xs)
 
-    pub widened_costs : IsWithin128 to (length nonbasic) wide_costs
+    pub widened_costs : AreItems to (length nonbasic) wide_costs
     widened_costs = same_kept (length nonbasic) costs wide_costs last costs_kept
 
     pub widened : tableau to (rows_of ys) wide_costs basic nonbasic ≡ tableau from (rows_of xs) costs basic nonbasic

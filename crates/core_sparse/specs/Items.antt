@@ -24,7 +24,7 @@ abbrev pub IsRising : {E : Type 0} → List (Item E) → Type 0
 IsRising xs = (i k : ℕ) → i < k → k < length xs → col_at xs i < col_at xs k
 
 -- the items of a row with n columns: the columns rise, and no number is 0
-pub record IsWithin128 {E : Type 0} (read : E → Fraction) (n : ℕ) (xs : List (Item E)) : Type 0 where
+pub record AreItems {E : Type 0} (read : E → Fraction) (n : ℕ) (xs : List (Item E)) : Type 0 where
   pub cols : (k : ℕ) → k < length xs → col_at xs k < n
   pub rising : IsRising xs
   pub not_zero : (k : ℕ) → k < length xs → value_at read xs k ≢ zero_q

@@ -3,7 +3,7 @@ use Rattle.std.specs.Prelude.{◌≡◌, ◌≢◌, ℕ, ◌<◌, List, [], leng
 use Rattle.fractions.specs.Fraction.{Fraction, zero_q}
 use Rattle.core_dict.specs.Dictionary.{Dictionary}
 use Rattle.core_dict.specs.Pivot.{own_entry, own_value, other_entry, other_value}
-use Rattle.core_sparse.specs.Items.{number, IsWithin128}
+use Rattle.core_sparse.specs.Items.{number, AreItems}
 use Rattle.core_sparse.specs.Steps.{entry_of, IsMarked}
 use Rattle.core_sparse.specs.declared.row.Item.{Item}
 use Rattle.core_sparse.specs.declared.row.Row.{Row}
@@ -46,13 +46,13 @@ sparse_of read d = tableau read (rows_of d.slots.items) d.costs.items d.basic.it
 -- row, and `spare` the costs where they change
 pub record IsPrepared {E : Type 0} (read : E → Fraction) (r s : ℕ) (xs : List (Slot E)) (costs : List (Item E))
     (basic nonbasic : List ℕ) (own : Row E) (spare : List (Item E)) : Type 0 where
-  pub own_kept : IsWithin128 read (length nonbasic) own.items.items
+  pub own_kept : AreItems read (length nonbasic) own.items.items
   pub own_entries : (j : ℕ) → j < length nonbasic
       → entry_of read own j ≡ own_entry (tableau read (rows_of xs) costs basic nonbasic) r s j
   pub own_value : read own.value ≡ own_value (tableau read (rows_of xs) costs basic nonbasic) r s
   pub marked : (i : ℕ) (x : Slot E) → i < length basic → i ≢ r → IsMarked read s (get_or xs i x)
   pub kept : (i : ℕ) (x : Slot E) → i < length basic → i ≢ r → entry_of_row read (rows_of xs) i s ≢ zero_q
-      → IsWithin128 read (length nonbasic) (get_or xs i x).spare.items.items
+      → AreItems read (length nonbasic) (get_or xs i x).spare.items.items
   pub entries : (i j : ℕ) → i < length basic → i ≢ r → entry_of_row read (rows_of xs) i s ≢ zero_q
       → j < length nonbasic
       → entry_of_row read (room_of xs) i j
@@ -60,7 +60,7 @@ pub record IsPrepared {E : Type 0} (read : E → Fraction) (r s : ℕ) (xs : Lis
       (entry_of_row read (rows_of xs) i) j
   pub values : (i : ℕ) → i < length basic → i ≢ r → entry_of_row read (rows_of xs) i s ≢ zero_q
       → value_of_row read (room_of xs) i ≡ other_value (tableau read (rows_of xs) costs basic nonbasic) r s i
-  pub costs_kept : number read costs s ≢ zero_q → IsWithin128 read (length nonbasic) spare
+  pub costs_kept : number read costs s ≢ zero_q → AreItems read (length nonbasic) spare
   pub spare_costs : number read costs s ≢ zero_q → (j : ℕ) → j < length nonbasic
       → number read spare j
       ≡ other_entry (tableau read (rows_of xs) costs basic nonbasic) r s (number read costs s)

@@ -7,7 +7,7 @@ use Rattle.fractions.specs.Fraction.{Fraction, zero_q}
 use Rattle.core_dict.specs.Dictionary.{IsZeroOutside, IsDictionary, HasVariables, IsBasic, IsNonbasic}
 use Rattle.core_dict.specs.DenseLaw.{some_of}
 use Rattle.core_dict.specs.Variables.{is_among}
-use Rattle.core_sparse.specs.Items.{number, col_at, IsWithin128}
+use Rattle.core_sparse.specs.Items.{number, col_at, AreItems}
 use Rattle.core_sparse.specs.Steps.{entry_of, AreKept}
 use Rattle.core_sparse.specs.Sparse.{rows_of, value_of_row, entry_of_row, tableau, sparse_of}
 use Rattle.core_sparse.specs.declared.row.Item.{Item}
@@ -38,7 +38,7 @@ module _ {E : Type 0} (read : E → Fraction) where
       ∙ number_none xs j (λ k l. h (suc k) (omega arith))
 
   -- past the last column
-  pub number_past : (n : ℕ) (xs : List (Item E)) (j : ℕ) → IsWithin128 read n xs → n ≤ j → number read xs j ≡ zero_q
+  pub number_past : (n : ℕ) (xs : List (Item E)) (j : ℕ) → AreItems read n xs → n ≤ j → number read xs j ≡ zero_q
   number_past n xs j h l = number_none xs j (λ k m e. apart (col_at xs k) (h.cols k m) e)
     where
       apart : (c : ℕ) → c < n → c ≡ j → ⊥
@@ -71,7 +71,7 @@ module _ {E : Type 0} (read : E → Fraction) where
 
   -- past its rows and columns a tableau is 0
   pub tableau_outside : (xs : List (Slot E)) (costs : List (Item E)) (basic nonbasic : List ℕ)
-      → length xs ≡ length basic → AreKept read (length nonbasic) xs → IsWithin128 read (length nonbasic) costs
+      → length xs ≡ length basic → AreKept read (length nonbasic) xs → AreItems read (length nonbasic) costs
       → IsZeroOutside (tableau read (rows_of xs) costs basic nonbasic)
   tableau_outside xs costs basic nonbasic same kept costs_kept = record {
     basic = λ i l. get_or_past basic i 0 l;

@@ -4,7 +4,7 @@ use Rattle.fractions.specs.Fraction.{Fraction, zero_q, one_q, ◌-ℚ◌, ◌*�
 use Rattle.fractions.specs.Leaves.{OverLeaves, LessTimesLeaves}
 use Rattle.core_dict.specs.Programme.{ProgrammeView, height, entry, bound}
 use Rattle.core_dict.specs.Rows.{divided_entry, entry_after, EntriesLeave}
-use Rattle.core_sparse.specs.Items.{number, columns, col_at, value_at, IsWithin128, Stands}
+use Rattle.core_sparse.specs.Items.{number, columns, col_at, value_at, AreItems, Stands}
 use Rattle.core_sparse.specs.declared.row.Item.{Item}
 use Rattle.core_sparse.specs.declared.row.Row.{Row}
 use Rattle.core_sparse.specs.declared.row.Slot.{Slot}
@@ -15,7 +15,7 @@ entry_of read x = number read x.items.items
 
 -- each row has n columns
 abbrev pub AreKept : {E : Type 0} → (E → Fraction) → ℕ → List (Slot E) → Type 0
-AreKept read n xs = (k : ℕ) (x : _) → k < length xs → IsWithin128 read n (get_or xs k x).row.items.items
+AreKept read n xs = (k : ℕ) (x : _) → k < length xs → AreItems read n (get_or xs k x).row.items.items
 
 -- ---- the pivot's own row, where s is the column
 -- what is divided at a place
@@ -30,7 +30,7 @@ pub record AreDivided {E : Type 0} (read : E → Fraction) (s : ℕ) (p : Fracti
 
 -- the row afterwards
 pub record IsOwnAfter {E : Type 0} (read : E → Fraction) (n s : ℕ) (before after : Row E) : Type 0 where
-  pub kept : IsWithin128 read n after.items.items
+  pub kept : AreItems read n after.items.items
   pub entries : (j : ℕ) → entry_of read after j ≡ divided_entry s (entry_of read before) j /ℚ entry_of read before s
   pub value : read after.value ≡ read before.value /ℚ entry_of read before s
 
@@ -54,7 +54,7 @@ pub record IsCopied {E : Type 0} (read : E → Fraction) (n : ℕ) (xs : List (I
     (ys zs : List (Item E)) (e : ℕ) : Type 0 where
   pub order : from ≤ until
   pub stands : Stands xs until e
-  pub kept : IsWithin128 read n zs
+  pub kept : AreItems read n zs
   pub below : AreBefore until zs
   pub old : (j : ℕ) → j < from → number read zs j ≡ number read ys j
   pub run : (j : ℕ) → from ≤ j → j < until → number read zs j ≡ number read xs j
@@ -62,7 +62,7 @@ pub record IsCopied {E : Type 0} (read : E → Fraction) (n : ℕ) (xs : List (I
 -- the items afterwards
 pub record AreAfter {E : Type 0} (read : E → Fraction) (n : ℕ) (p : Fraction) (s : ℕ) (own before after : List (Item E))
     : Type 0 where
-  pub kept : IsWithin128 read n after
+  pub kept : AreItems read n after
   pub entries : (j : ℕ) → j < n → number read after j ≡ entry_after p s (number read own) (number read before) j
 
 -- the row afterwards
@@ -100,7 +100,7 @@ pub record IsExchanged {E : Type 0} (read : E → Fraction) (s : ℕ) (x y : Slo
 -- ---- the start
 -- the row of a programme as it starts
 pub record IsStartRow {E : Type 0} (read : E → Fraction) (p : ProgrammeView) (i : ℕ) (x : Slot E) : Type 0 where
-  pub kept : IsWithin128 read p.cols x.row.items.items
+  pub kept : AreItems read p.cols x.row.items.items
   pub entries : (j : ℕ) → j < p.cols → entry_of read x.row j ≡ whole (entry p i j)
   pub value : read x.row.value ≡ whole (bound p i)
 

@@ -1,8 +1,8 @@
 // The parts of a new tableau.
-ghost use Rattle.std.specs.Prelude.{◌≡◌, ℕ, ◌<◌, ◌≤◌, ◌+◌, suc, [], IfOk, length, get_or, ◌==◌, if◌then◌else◌};
+ghost use Rattle.std.specs.Prelude.{◌≡◌, ℕ, ◌<◌, suc, [], IfOk, ◌==◌, if◌then◌else◌};
 ghost use Rattle.fractions.specs.Fraction.{zero_q, one_q, whole};
 ghost use Rattle.core_dict.specs.Programme.{height, entry as programme_entry};
-ghost use Rattle.core_sparse.specs.Items.{number as number_of, IsWithin128};
+ghost use Rattle.core_sparse.specs.Items.{number as number_of, AreItems};
 ghost use Rattle.core_sparse.specs.Steps.{IsStartRow, AreStartRows};
 
 use crate::keep::keep;
@@ -29,7 +29,7 @@ fn items<E: Exact>(
     row: usize,
 ) -> Result<Vec<Item<E>>, AllocError>
     requires { row < height programme.now }
-    ensures kept { IfOk result (λ v. IsWithin128 E.value programme.now.cols v.items) }
+    ensures kept { IfOk result (λ v. AreItems E.value programme.now.cols v.items) }
     ensures entries { IfOk result (λ v. (j : ℕ) → j < programme.now.cols
         → number_of E.value v.items j ≡ whole (programme_entry programme.now row j)) }
 {
@@ -72,25 +72,11 @@ pub fn slots<E: Exact>(alloc: Global, programme: &Programme) -> Result<Vec<Slot<
 /// The costs of the start dictionary: 1 in the last column.
 pub fn costs<E: Exact>(alloc: Global, cols: usize) -> Result<Vec<Item<E>>, AllocError>
     requires { 0 < cols }
-    ensures kept { IfOk result (λ v. IsWithin128 E.value cols v.items) }
+    ensures kept { IfOk result (λ v. AreItems E.value cols v.items) }
     ensures costs { IfOk result (λ v. (j : ℕ)
         → number_of E.value v.items j ≡ (if suc j == cols then one_q else zero_q)) }
 {
     let mut all = Vec::new(alloc);
     keep(&mut all, cols - 1, E::one())?;
-    Ok(all)
-}
-
-/// So many variables, numbered from a number on.
-pub fn variables(alloc: Global, first: u32, n: usize) -> Result<Vec<u32>, AllocError>
-    requires first_in { first ≤ 65536 }
-    requires few { n ≤ 65535 }
-    ensures width { IfOk result (λ v. length v.items ≡ n) }
-    ensures variables { IfOk result (λ v. (i : ℕ) → i < n → get_or v.items i 0 ≡ first + i) }
-{
-    let mut all = Vec::with_capacity(alloc, n)?;
-    for i in 0..n {
-        all.push(first + i as u32)?;
-    }
     Ok(all)
 }

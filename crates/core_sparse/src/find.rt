@@ -2,7 +2,7 @@
 ghost use Rattle.std.specs.Prelude.{◌≡◌, ◌<◌, ◌≤◌, ℕ, suc, get_or, length, IsTrue};
 ghost use Rattle.core_dict.specs.NextEntry.{IsNextEntry};
 ghost use Rattle.core_sparse.specs.Items.{columns, col_at, number as number_of};
-ghost use Rattle.core_sparse.specs.Items.{IsWithin128, IsRising, Stands};
+ghost use Rattle.core_sparse.specs.Items.{AreItems, IsRising, Stands};
 
 use crate::row::Item;
 use core_dict::RowEntry;
@@ -104,7 +104,7 @@ pub fn place_from<E: Exact>(items: &[Item<E>], col: usize, place: usize) -> usiz
 /// an answer stands at its place.
 pub fn next_item<E: Exact>(items: &Vec<Item<E>>, from: usize, place: usize) -> Option<RowEntry<E>>
     requires { IsRising items.now.items }
-    ensures { (n : ℕ) → IsWithin128 E.value n items.now.items
+    ensures { (n : ℕ) → AreItems E.value n items.now.items
         → IsNextEntry E.value n (number_of E.value items.now.items) from result }
 {
     let place = place_from(items, from, place);

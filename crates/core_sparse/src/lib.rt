@@ -6,7 +6,6 @@ mod fill;
 mod find;
 mod keep;
 mod merge;
-mod numbers;
 mod own;
 mod row;
 mod shift;

@@ -3,7 +3,7 @@ ghost use Rattle.std.specs.Prelude.{◌≡◌, ◌≢◌, ◌↔◌, ℕ, ◌<�
 ghost use Rattle.std.specs.Prelude.{OnOk, Err, IfOk, IsErr, unsigned_abs};
 ghost use Rattle.fractions.specs.Fraction.{zero_q, ◌-ℚ◌, ◌*ℚ◌};
 ghost use Rattle.fractions.specs.Leaves.{LessTimesLeaves};
-ghost use Rattle.core_sparse.specs.Items.{number as number_of, IsWithin128, Stands};
+ghost use Rattle.core_sparse.specs.Items.{number as number_of, AreItems, Stands};
 ghost use Rattle.core_sparse.specs.Steps.{merged, AreBefore, IsCopied};
 
 use crate::fault::Fault;
@@ -38,9 +38,9 @@ fn copied<E: Exact>(
     cols: usize,
     after: &mut Vec<Item<E>>,
 ) -> Result<usize, AllocError>
-    requires before { IsWithin128 E.value cols before.now }
+    requires before { AreItems E.value cols before.now }
     requires stands { Stands before.now from place }
-    requires kept { IsWithin128 E.value cols after.old.items }
+    requires kept { AreItems E.value cols after.old.items }
     requires below { AreBefore from after.old.items }
     requires order { from ≤ until }
     requires until { until ≤ cols }
@@ -68,11 +68,11 @@ pub fn merge<E: Exact>(
     cols: usize,
     after: &mut Vec<Item<E>>,
 ) -> Result<(), Fault>
-    requires before { IsWithin128 E.value cols before.now }
-    requires own { IsWithin128 E.value cols own.now }
+    requires before { AreItems E.value cols before.now }
+    requires own { AreItems E.value cols own.now }
     requires pivot { number_of E.value own.now col ≢ zero_q }
     requires empty { after.old.items ≡ [] }
-    ensures kept { OnOk result (IsWithin128 E.value cols after.new.items) }
+    ensures kept { OnOk result (AreItems E.value cols after.new.items) }
     ensures exact { OnOk result ((j : ℕ) → j < cols → number_of E.value after.new.items j
         ≡ merged col (E.value q) (E.value turned) (number_of E.value before.now)
         (number_of E.value own.now) j) }

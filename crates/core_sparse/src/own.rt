@@ -3,13 +3,13 @@ ghost use Rattle.std.specs.Prelude.{◌≡◌, ◌≢◌, ◌↔◌, ◌==◌, �
 ghost use Rattle.std.specs.Prelude.{if◌then◌else◌, IfOk, IsErr, OnOk, Err, length, unsigned_abs};
 ghost use Rattle.fractions.specs.Fraction.{zero_q, one_q, ◌/ℚ◌};
 ghost use Rattle.fractions.specs.Leaves.{OverLeaves};
-ghost use Rattle.core_sparse.specs.Items.{IsWithin128};
+ghost use Rattle.core_sparse.specs.Items.{AreItems};
 ghost use Rattle.core_sparse.specs.Steps.{entry_of, divided_value, AreDivided, IsOwnAfter, OwnRowLeaves};
 
 use crate::fault::Fault;
 use crate::keep::push;
-use crate::numbers::divided;
 use crate::row::{Item, Row};
+use core_dict::divided;
 use exact_frac::{Exact, Left};
 
 // An entry of the pivot's own row afterwards.
@@ -60,7 +60,7 @@ pub fn own_row<E: Exact>(
     cols: usize,
     after: &mut Row<E>,
 ) -> Result<(), Fault>
-    requires before { IsWithin128 E.value cols before.now.items.items }
+    requires before { AreItems E.value cols before.now.items.items }
     requires pivot { E.value pivot ≢ zero_q }
     requires entry { E.value pivot ≡ entry_of E.value before.now col }
     ensures exact { OnOk result (IsOwnAfter E.value cols col before.now after.new) }

@@ -2,18 +2,18 @@
 ghost use Rattle.std.specs.Prelude.{◌≡◌, ◌≢◌, ◌<◌, length, Err, OnOk, unsigned_abs};
 ghost use Rattle.fractions.specs.Fraction.{zero_q};
 ghost use Rattle.core_dict.specs.Variables.{HaveVariables};
-ghost use Rattle.core_sparse.specs.Items.{IsWithin128, AreItemsOf};
+ghost use Rattle.core_sparse.specs.Items.{AreItems, AreItemsOf};
 ghost use Rattle.core_sparse.specs.Steps.{AreKept};
 
 use crate::fault::Fault;
-use crate::fill::{costs, room, slots, variables};
+use crate::fill::{costs, room, slots};
 use crate::find::{next_item, number};
 use crate::own::own_row;
 use crate::row::{Item, Row, Slot};
 use crate::shift::{column_of, make_values, place_values};
 use crate::steps::{exchange_all, exchange_costs, make_costs, make_others};
 use crate::widen::{wide_items, wide_slots};
-use core_dict::{PivotFault, Programme, RowEntry, Shift, Store, Widen};
+use core_dict::{PivotFault, Programme, RowEntry, Shift, Store, Widen, variables_from};
 use exact_frac::{Exact, Frac64, Frac128, Left};
 use std::alloc::{AllocError, Global};
 use std::mem;
@@ -30,7 +30,7 @@ pub struct Sparse<E: Exact> {
     spare_costs: Vec<Item<E>>,
     ghost rows: { length slots.items ≡ length basic.items },
     ghost kept: { AreKept E.value (length nonbasic.items) slots.items },
-    ghost costs_kept: { IsWithin128 E.value (length nonbasic.items) costs.items },
+    ghost costs_kept: { AreItems E.value (length nonbasic.items) costs.items },
     ghost variables: { HaveVariables basic.items nonbasic.items },
 }
 
@@ -113,8 +113,8 @@ impl<E: Exact> Store<E> for Sparse<E> {
         Ok(Sparse {
             slots: slots(alloc, programme)?,
             costs: costs(alloc, cols)?,
-            basic: variables(alloc, cols as u32 + 1, rows)?,
-            nonbasic: variables(alloc, 1, cols)?,
+            basic: variables_from(alloc, cols as u32 + 1, rows)?,
+            nonbasic: variables_from(alloc, 1, cols)?,
             own: room(alloc),
             spare_costs: Vec::new(alloc),
         })

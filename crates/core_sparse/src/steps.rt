@@ -4,15 +4,15 @@ ghost use Rattle.std.specs.Prelude.{length, map, get_or, unsigned_abs};
 ghost use Rattle.fractions.specs.Fraction.{zero_q, ◌-ℚ◌, ◌*ℚ◌, ◌/ℚ◌};
 ghost use Rattle.fractions.specs.Leaves.{OverLeaves, LessTimesLeaves};
 ghost use Rattle.core_dict.specs.Rows.{EntriesLeave};
-ghost use Rattle.core_sparse.specs.Items.{number as number_of, IsWithin128, IsRising};
+ghost use Rattle.core_sparse.specs.Items.{number as number_of, AreItems, IsRising};
 ghost use Rattle.core_sparse.specs.Steps.{entry_of, AreKept, AreAfter, IsAfter, RowLeaves};
 ghost use Rattle.core_sparse.specs.Steps.{IsMade, IsPut};
 
 use crate::fault::Fault;
 use crate::find::number;
 use crate::merge::merge;
-use crate::numbers::{divided, is_zero};
 use crate::row::{Item, Row, Slot};
+use core_dict::{divided, is_zero};
 use exact_frac::Exact;
 use std::mem;
 
@@ -26,8 +26,8 @@ fn other_items<E: Exact>(
     cols: usize,
     after: &mut Vec<Item<E>>,
 ) -> Result<(), Fault>
-    requires before { IsWithin128 E.value cols before.now.items }
-    requires own { IsWithin128 E.value cols own.now.items }
+    requires before { AreItems E.value cols before.now.items }
+    requires own { AreItems E.value cols own.now.items }
     requires pivot { E.value pivot ≢ zero_q }
     requires turned { number_of E.value own.now.items col ≢ zero_q }
     requires q { E.value q ≡ number_of E.value before.now.items col }
@@ -55,8 +55,8 @@ fn other_row<E: Exact>(
     cols: usize,
     after: &mut Row<E>,
 ) -> Result<(), Fault>
-    requires before { IsWithin128 E.value cols before.now.items.items }
-    requires own { IsWithin128 E.value cols own.now.items.items }
+    requires before { AreItems E.value cols before.now.items.items }
+    requires own { AreItems E.value cols own.now.items.items }
     requires pivot { E.value pivot ≢ zero_q }
     requires turned { entry_of E.value own.now col ≢ zero_q }
     requires q { E.value q ≡ entry_of E.value before.now col }
@@ -88,8 +88,8 @@ fn make<E: Exact>(
     col: usize,
     cols: usize,
 ) -> Result<(), Fault>
-    requires before { IsWithin128 E.value cols slot.old.row.items.items }
-    requires own { IsWithin128 E.value cols own.now.items.items }
+    requires before { AreItems E.value cols slot.old.row.items.items }
+    requires own { AreItems E.value cols own.now.items.items }
     requires pivot { E.value pivot ≢ zero_q }
     requires turned { entry_of E.value own.now col ≢ zero_q }
     ensures row { slot.new.row ≡ slot.old.row }
@@ -118,7 +118,7 @@ pub fn make_others<E: Exact>(
     cols: usize,
 ) -> Result<(), Fault>
     requires before { AreKept E.value cols slots.old }
-    requires own { IsWithin128 E.value cols own.now.items.items }
+    requires own { AreItems E.value cols own.now.items.items }
     requires pivot { E.value pivot ≢ zero_q }
     requires turned { entry_of E.value own.now col ≢ zero_q }
     ensures rows { map (λ x. x.row) slots.new ≡ map (λ x. x.row) slots.old }
@@ -149,8 +149,8 @@ pub fn make_costs<E: Exact>(
     cols: usize,
     after: &mut Vec<Item<E>>,
 ) -> Result<(), Fault>
-    requires before { IsWithin128 E.value cols costs.now.items }
-    requires own { IsWithin128 E.value cols own.now.items }
+    requires before { AreItems E.value cols costs.now.items }
+    requires own { AreItems E.value cols own.now.items }
     requires pivot { E.value pivot ≢ zero_q }
     requires turned { number_of E.value own.now.items col ≢ zero_q }
     ensures exact { OnOk result (number_of E.value costs.now.items col ≢ zero_q

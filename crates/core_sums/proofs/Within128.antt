@@ -7,7 +7,11 @@ use Rattle.std.proofs.lemmas.Bool.{cases_lt}
 use Rattle.std.proofs.lemmas.Bool.Decides.{nat_tests}
 use Rattle.std.proofs.lemmas.List.{get_or_past}
 use Rattle.core_sums.specs.Places.{at}
-use Rattle.core_sums.specs.Widths.{most, leaves, IsWithin128}
+use Rattle.core_sums.specs.Widths.{most, most64, leaves, IsWithin128}
+
+-- what 64 bits keep 128 bits keep
+pub narrow-wide : most64 ≤ most
+narrow-wide = lit≤ tt
 
 -- the absolute value of a number between two bounds
 pub abs-within : (z : ℤ) (n : ℕ) → neg_ℤ (pos n) ≤ℤ z → z ≤ℤ pos n → unsigned_abs z ≤ n

@@ -5,7 +5,7 @@ ghost use Rattle.fractions.specs.Fraction.{reduce, zero_q, ◌+ℚ◌, ◌*ℚ�
 ghost use Rattle.fractions.specs.Leaves.{TimesLeaves, PlusLeaves};
 ghost use Rattle.exact_frac.specs.Units.{IsUnit};
 ghost use Rattle.exact_frac.specs.Value64.{value64};
-ghost use Rattle.exact_frac.specs.Within.{most64};
+ghost use Rattle.core_sums.specs.Widths.{most64};
 
 use crate::divisors::narrow_gcd;
 use crate::narrow_whole::{numbers_product, numbers_sum, product_within, quotient};

@@ -1,7 +1,7 @@
 // Whole numbers of 64 bits: sums, products and quotients, at most 2 ^ 62 in absolute value.
 ghost use Rattle.std.specs.Prelude.{◌≡◌, ◌≤◌, ◌<◌, ◌/◌, ◌*◌, ◌+ℤ◌, ◌*ℤ◌, ◌↔◌, IfOk, IsErr, unsigned_abs};
 ghost use Rattle.exact_frac.specs.Signed.{signed};
-ghost use Rattle.exact_frac.specs.Within.{most64};
+ghost use Rattle.core_sums.specs.Widths.{most64};
 
 use crate::Left;
 

@@ -7,7 +7,7 @@ use mir.Val.{to_z, of_z}
 use Rattle.core_sums.specs.Places.{at}
 use Rattle.fractions.specs.Common.{common_den, numerator_over}
 use Rattle.exact_frac.specs.Value128.{value128}
-use Rattle.exact_frac.specs.Within.{most128}
+use Rattle.core_sums.specs.Widths.{most}
 use Rattle.core_dict.specs.Rows.{fraction_at}
 use Rattle.core_duals.proofs.Over.{over_common_is}
 use Rattle.core_duals.proofs.Scaling.{common_divides, numerator_read, more_written, numerators}
@@ -29,9 +29,9 @@ scaled-requires-clause-divides c =
 pub returns-in_err-scaled-clause-too_wide : goal.returns-in_err-scaled-clause-too_wide
 returns-in_err-scaled-clause-too_wide c =
     let xs = c.args.list.now in
-    λ _. one_leaves most128 (map value128 xs) c.loop-i.i
+    λ _. one_leaves most (map value128 xs) c.loop-i.i
     (omega (arith, c.loop-i-test.true, length-map xs value128))
-    (subst (λ (z : ℤ). most128 < unsigned_abs z)
+    (subst (λ (z : ℤ). most < unsigned_abs z)
     (numerator_read xs c.loop-i.i _ c.index-list-i.result c.loop-i-test.true c.index-list-i.is
     (ap unsigned_abs (to_z-of_z w128 c.in_ok-den.den (search rules) ∙ c.in_ok-den.ensures.exact)))
     (c.in_err-scaled.ensures.left.0 refl))
@@ -45,9 +45,9 @@ loop-i-preserved c =
     let is : numerator_over m (value128 c.index-list-i.result) ≡ f i =
     numerator_read xs i m c.index-list-i.result c.loop-i-test.true c.index-list-i.is
     (ap unsigned_abs (to_z-of_z w128 c.in_ok-den.den (search rules) ∙ c.in_ok-den.ensures.exact)) in
-    let fits : most128 < unsigned_abs (f i) → ⊥ =
+    let fits : most < unsigned_abs (f i) → ⊥ =
     λ h. let e : false ≡ true =
-    c.in_ok-scaled.ensures.left.1 (subst (λ (z : ℤ). most128 < unsigned_abs z) (sym is) h) in
+    c.in_ok-scaled.ensures.left.1 (subst (λ (z : ℤ). most < unsigned_abs z) (sym is) h) in
     (cc) in
     record {
       width = ap length c.set.ensures ∙ length-set c.loop-i.nums i _
@@ -55,7 +55,7 @@ loop-i-preserved c =
       each = subst (λ (ns : List ℤ). (k : ℕ) → k < i + 1 → at ns k ≡ f k) (sym c.set.ensures) (more_written c.loop-i.nums i _ f
           (omega (arith, c.loop-i-test.true, c.loop-i.invariant.width)) c.loop-i.invariant.each
           (to_z-of_z w128 c.in_ok-scaled.field-0 (search rules) ∙ c.in_ok-scaled.ensures.exact ∙ is));
-      fits = below_more (λ (k : ℕ). unsigned_abs (f k) ≤ most128) i c.loop-i.invariant.fits
+      fits = below_more (λ (k : ℕ). unsigned_abs (f k) ≤ most) i c.loop-i.invariant.fits
           (omega (arith, fits));
     }
 
@@ -73,6 +73,6 @@ returns-clause-exact c =
 pub returns-clause-fits : goal.returns-clause-fits
 returns-clause-fits c =
     let xs = c.args.list.now in
-    none_leaves most128 (map value128 xs)
+    none_leaves most (map value128 xs)
     (λ h. let e : false ≡ true = c.in_ok-den.ensures.left.1 h in (cc))
     (λ k l. c.loop-i.invariant.fits k (omega (arith, l, c.loop-i-test.false, length-map xs value128)))

@@ -22,8 +22,8 @@ overflow_sub-result c =
     ∙ ap (λ s. price case c.args.scenario i s) c.requires.marked in
     simp to_z-of_z
     (rw (first, second)
-    (change-fits case c.args.scenario i (day_before case i c.args.t) c.args.t c.horizon-kept.ensures.kept c.requires.scenario
-    (instrument-known case c.args.l c.horizon-kept.ensures.kept c.requires.line) (marked-within case i c.args.t c.requires.day) c.requires.day))
+    (change-fits case c.args.scenario i (day_before case i c.args.t) c.args.t c.well_formed-2.ensures c.requires.scenario
+    (instrument-known case c.args.l c.well_formed-2.ensures c.requires.line) (marked-within case i c.args.t c.requires.day) c.requires.day))
 
 pub returns : goal.returns
 returns c =
@@ -38,6 +38,6 @@ returns c =
     ∙ ap (λ s. price case c.args.scenario i s) c.requires.marked in
     let whole : FitsSigned w64 (c.price.result -ℤ c.price-2.result) =
     rw (first, second)
-    (change-fits case c.args.scenario i (day_before case i c.args.t) c.args.t c.horizon-kept.ensures.kept c.requires.scenario
-    (instrument-known case c.args.l c.horizon-kept.ensures.kept c.requires.line) (marked-within case i c.args.t c.requires.day) c.requires.day) in
+    (change-fits case c.args.scenario i (day_before case i c.args.t) c.args.t c.well_formed-2.ensures c.requires.scenario
+    (instrument-known case c.args.l c.well_formed-2.ensures c.requires.line) (marked-within case i c.args.t c.requires.day) c.requires.day) in
     simp to_z-of_z (rw (first, second) refl)

@@ -6,7 +6,7 @@ use Rattle.core_model.specs.Closing.{cost_flow}
 use Rattle.core_model.specs.OfCase.{planned}
 use Rattle.core_replay.specs.Ledger.{costly_tiers, flow_numbers}
 use Rattle.core_replay.specs.Steps.{with_flows}
-use Rattle.core_replay.proofs.Dues.{with-long, pays-inside}
+use Rattle.core_replay.proofs.ByPayDay.{with-long, pays-inside}
 use Rattle.core_replay.proofs.Costs.{flows-stay, met-leaves, costs-leave, flows-put, stops-more}
 use Rattle.core_replay.proofs.flows.put_flows.Goals as goal
 
@@ -15,10 +15,10 @@ returns-in_default-clause-stops c =
     (refl, refl, met-leaves c.args.calendar.now.case (planned c.args.calendar.now) c.args.scenario c.args.l c.args.t c.in_default.ensures)
 
 pub add-requires : goal.add-requires
-add-requires c w e = pays-inside c.args.calendar.now.case c.args.l c.args.t (length c.args.due.now) c.requires.due w (sym (rw c.case-case.ensures.value at c.pay_day.ensures) ∙ e)
+add-requires c w e = pays-inside c.args.calendar.now.case c.args.l c.args.t (length c.args.payable.now) c.requires.payable w (sym (rw c.case-case.ensures.value at c.pay_day.ensures) ∙ e)
 
-pub put_costs-requires-clause-due : goal.put_costs-requires-clause-due
-put_costs-requires-clause-due c = ap length c.in_ok-add.ensures ∙ with-long c.args.due.now c.pay_day.result _ ∙ c.requires.due
+pub put_costs-requires-clause-payable : goal.put_costs-requires-clause-payable
+put_costs-requires-clause-payable c = ap length c.in_ok-add.ensures ∙ with-long c.args.payable.now c.pay_day.result _ ∙ c.requires.payable
 
 pub returns-in_err-put_costs-clause-stops : goal.returns-in_err-put_costs-clause-stops
 returns-in_err-put_costs-clause-stops c =
@@ -30,14 +30,14 @@ returns-in_err-put_costs-clause-stops c =
     let gives = c.from_residual-in_err-put_costs.ensures in
     search (rules, stops)
 
-pub returns-clause-due : goal.returns-clause-due
-returns-clause-due c =
+pub returns-clause-payable : goal.returns-clause-payable
+returns-clause-payable c =
     let case = c.args.calendar.now.case in
     let a = planned c.args.calendar.now in
     let fits : FitsSigned w128 c.in-Some.flow = search rules in
-    let put : c.add.new.self ≡ with_flows c.args.due.now c.pay_day.result (c.in-Some.flow ∷ []) = simp to_z-of_z at c.in_ok-add.ensures in
-    flows-put case a c.args.scenario c.args.l c.args.t c.args.due.now c.add.new.self c.put_costs.new.due c.in-Some.flow c.requires.due
-    (put ∙ ap (λ o. with_flows c.args.due.now o (c.in-Some.flow ∷ [])) (rw c.case-case.ensures.value at c.pay_day.ensures)) c.in-Some.ensures.0 c.in_ok-put_costs.ensures.due
+    let put : c.add.new.self ≡ with_flows c.args.payable.now c.pay_day.result (c.in-Some.flow ∷ []) = simp to_z-of_z at c.in_ok-add.ensures in
+    flows-put case a c.args.scenario c.args.l c.args.t c.args.payable.now c.add.new.self c.put_costs.new.payable c.in-Some.flow c.requires.payable
+    (put ∙ ap (λ o. with_flows c.args.payable.now o (c.in-Some.flow ∷ [])) (rw c.case-case.ensures.value at c.pay_day.ensures)) c.in-Some.ensures.0 c.in_ok-put_costs.ensures.payable
 
 pub returns-clause-stays : goal.returns-clause-stays
 returns-clause-stays c =

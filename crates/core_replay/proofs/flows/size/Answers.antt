@@ -9,12 +9,12 @@ overflow_mul-result c =
     let sign : FitsSigned w64 c.from.result = search rules in
     let mult : FitsSigned w64 c.instrument.result.mult = search rules in
     let same : c.from.result *ℤ c.instrument.result.mult ≡ size c.args.case.now c.args.l = search rules in
-    simp to_z-of_z (rw same (size-fits c.args.case.now c.args.l c.horizon-kept.ensures.kept c.requires.line))
+    simp to_z-of_z (rw same (size-fits c.args.case.now c.args.l c.well_formed-2.ensures c.requires.line))
 
 pub returns : goal.returns
 returns c =
     let sign : FitsSigned w64 c.from.result = search rules in
     let mult : FitsSigned w64 c.instrument.result.mult = search rules in
     let same : c.from.result *ℤ c.instrument.result.mult ≡ size c.args.case.now c.args.l = search rules in
-    let whole : FitsSigned w64 (c.from.result *ℤ c.instrument.result.mult) = rw same (size-fits c.args.case.now c.args.l c.horizon-kept.ensures.kept c.requires.line) in
+    let whole : FitsSigned w64 (c.from.result *ℤ c.instrument.result.mult) = rw same (size-fits c.args.case.now c.args.l c.well_formed-2.ensures c.requires.line) in
     simp to_z-of_z same

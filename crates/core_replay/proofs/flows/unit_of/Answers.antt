@@ -13,7 +13,7 @@ overflow_mul-result c =
     let right : FitsSigned w64 c.price_change.result = search rules in
     let same : c.size.result *ℤ c.price_change.result ≡ unit_by Future c.args.case.now c.args.scenario c.args.l c.args.t =
     ap (λ z. z *ℤ c.price_change.result) c.size.ensures ∙ ap (λ z. size c.args.case.now c.args.l *ℤ z) c.price_change.ensures in
-    simp to_z-of_z (rw same (unit-fits Future c.args.case.now c.args.scenario c.args.l c.args.t c.horizon-kept.ensures.kept c.requires.scenario c.requires.line c.requires.day))
+    simp to_z-of_z (rw same (unit-fits Future c.args.case.now c.args.scenario c.args.l c.args.t c.well_formed-2.ensures c.requires.scenario c.requires.line c.requires.day))
 
 pub overflow_mul-result-in-Security : goal.overflow_mul-result-in-Security
 overflow_mul-result-in-Security c =
@@ -23,7 +23,7 @@ overflow_mul-result-in-Security c =
     c.price.ensures ∙ ap (λ x. price c.args.case.now c.args.scenario x.instrument c.args.t) c.line-i.ensures in
     let same : c.size-in-Security.result *ℤ c.price.result ≡ unit_by Security c.args.case.now c.args.scenario c.args.l c.args.t =
     ap (λ z. z *ℤ c.price.result) c.size-in-Security.ensures ∙ ap (λ z. size c.args.case.now c.args.l *ℤ z) here in
-    simp to_z-of_z (rw same (unit-fits Security c.args.case.now c.args.scenario c.args.l c.args.t c.horizon-kept.ensures.kept c.requires.scenario c.requires.line c.requires.day))
+    simp to_z-of_z (rw same (unit-fits Security c.args.case.now c.args.scenario c.args.l c.args.t c.well_formed-2.ensures c.requires.scenario c.requires.line c.requires.day))
 
 pub returns-in-Future : goal.returns-in-Future
 returns-in-Future c =
@@ -32,7 +32,7 @@ returns-in-Future c =
     let same : c.size.result *ℤ c.price_change.result ≡ unit_by Future c.args.case.now c.args.scenario c.args.l c.args.t =
     ap (λ z. z *ℤ c.price_change.result) c.size.ensures ∙ ap (λ z. size c.args.case.now c.args.l *ℤ z) c.price_change.ensures in
     let whole : FitsSigned w64 (c.size.result *ℤ c.price_change.result) =
-    rw same (unit-fits Future c.args.case.now c.args.scenario c.args.l c.args.t c.horizon-kept.ensures.kept c.requires.scenario c.requires.line c.requires.day) in
+    rw same (unit-fits Future c.args.case.now c.args.scenario c.args.l c.args.t c.well_formed-2.ensures c.requires.scenario c.requires.line c.requires.day) in
     let kind : kind_of c.args.case.now c.args.l ≡ Future =
     ap (λ x. (instrument c.args.case.now x.instrument).kind) (sym c.line-i.ensures) ∙ ap (λ x. x.kind) (sym c.instrument.ensures) ∙ c.in-Future.is in
     simp to_z-of_z (same ∙ ap (λ k. unit_by k c.args.case.now c.args.scenario c.args.l c.args.t) (sym kind))
@@ -46,7 +46,7 @@ returns-in-Security c =
     let same : c.size-in-Security.result *ℤ c.price.result ≡ unit_by Security c.args.case.now c.args.scenario c.args.l c.args.t =
     ap (λ z. z *ℤ c.price.result) c.size-in-Security.ensures ∙ ap (λ z. size c.args.case.now c.args.l *ℤ z) here in
     let whole : FitsSigned w64 (c.size-in-Security.result *ℤ c.price.result) =
-    rw same (unit-fits Security c.args.case.now c.args.scenario c.args.l c.args.t c.horizon-kept.ensures.kept c.requires.scenario c.requires.line c.requires.day) in
+    rw same (unit-fits Security c.args.case.now c.args.scenario c.args.l c.args.t c.well_formed-2.ensures c.requires.scenario c.requires.line c.requires.day) in
     let kind : kind_of c.args.case.now c.args.l ≡ Security =
     ap (λ x. (instrument c.args.case.now x.instrument).kind) (sym c.line-i.ensures) ∙ ap (λ x. x.kind) (sym c.instrument.ensures) ∙ c.in-Security.is in
     simp to_z-of_z (same ∙ ap (λ k. unit_by k c.args.case.now c.args.scenario c.args.l c.args.t) (sym kind))

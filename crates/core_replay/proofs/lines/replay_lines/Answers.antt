@@ -3,8 +3,8 @@ use Rattle.core_model.specs.Closing.{line_count}
 use Rattle.core_model.specs.OfCase.{planned}
 use Rattle.core_sums.specs.Widths.{any_leaves}
 use Rattle.core_replay.specs.Ledger.{line_numbers, lines_numbers}
-use Rattle.core_replay.specs.Steps.{AreDue}
-use Rattle.core_replay.proofs.Dues.{due-step, due-end}
+use Rattle.core_replay.specs.Steps.{ArePayable}
+use Rattle.core_replay.proofs.ByPayDay.{payable-step, payable-end}
 use Rattle.core_replay.proofs.Costs.{stops-more}
 use Rattle.core_replay.proofs.Standing.{standing-more, standing-done, lines-stay, lines-leave}
 use Rattle.core_replay.proofs.lines.replay_lines.Goals as goal
@@ -27,8 +27,8 @@ loop-l-preserved c =
     let inside : c.loop-l.l < length c.loop-l.lines.items = omega (arith, c.loop-l-test.true, c.len-l-end.ensures, c.requires.standing.count, c.loop-l.invariant.standing.count) in
     record {
       standing = standing-more case a c.args.t c.loop-l.l c.loop-l.lines.items c.in_ok-lines.field-0 inside c.loop-l.invariant.standing c.in_ok-lines.ensures.next;
-      due = subst (AreDue case a c.args.scenario (c.args.t - 1) (c.loop-l.l + 1)) (sym c.in_ok-lines.ensures.due)
-          (due-step case a c.args.scenario c.args.t c.loop-l.l c.loop-l.due c.requires.from c.requires.to c.loop-l.invariant.due);
+      payable = subst (ArePayable case a c.args.scenario (c.args.t - 1) (c.loop-l.l + 1)) (sym c.in_ok-lines.ensures.payable)
+          (payable-step case a c.args.scenario c.args.t c.loop-l.l c.loop-l.payable c.requires.from c.requires.to c.loop-l.invariant.payable);
       stays = below_more (λ (i : ℕ). any_leaves (line_numbers case a c.args.scenario c.args.t i) ≡ false) c.loop-l.l c.loop-l.invariant.stays c.in_ok-lines.ensures.stays;
     }
 
@@ -37,10 +37,10 @@ returns-clause-standing c =
     let done : c.loop-l.l ≡ line_count c.args.calendar.now.case = omega (arith, c.loop-l-test.false, c.loop-l.auto.l-end, c.len-l-end.ensures, c.requires.standing.count) in
     standing-done c.args.calendar.now.case (planned c.args.calendar.now) c.args.t c.loop-l.l c.loop-l.lines.items done c.loop-l.invariant.standing
 
-pub returns-clause-due : goal.returns-clause-due
-returns-clause-due c =
+pub returns-clause-payable : goal.returns-clause-payable
+returns-clause-payable c =
     let done : c.loop-l.l ≡ line_count c.args.calendar.now.case = omega (arith, c.loop-l-test.false, c.loop-l.auto.l-end, c.len-l-end.ensures, c.requires.standing.count) in
-    due-end c.args.calendar.now.case (planned c.args.calendar.now) c.args.scenario c.args.t c.loop-l.l c.loop-l.due c.requires.from done c.loop-l.invariant.due
+    payable-end c.args.calendar.now.case (planned c.args.calendar.now) c.args.scenario c.args.t c.loop-l.l c.loop-l.payable c.requires.from done c.loop-l.invariant.payable
 
 pub returns-clause-stays : goal.returns-clause-stays
 returns-clause-stays c =

@@ -1,5 +1,5 @@
 use Rattle.std.proofs.Common.{ℕ, ◌-◌, ◌<◌, ◌≤◌, unsigned_abs}
-use Rattle.core_run.specs.Kept.{ColumnLeaves, HasKeptColumn}
+use Rattle.core_run.specs.SoFar.{ColumnLeaves, IsColumnSoFar}
 use Rattle.core_run.proofs.entering.entering_column.Given as goal
 
 abbrev pub invariant-loop-from : goal.invariant-loop-from
@@ -7,7 +7,7 @@ invariant-loop-from g l =
     let d = g.D.Store.dictionary l.dict in
     record {
       within : l.from ≤ l.cols;
-      kept : HasKeptColumn g.E.Exact.value d l.row l.from l.kept;
+      so_far : IsColumnSoFar g.E.Exact.value d l.row l.from l.so_far;
       fits : (j : ℕ) → j < l.from → ¬ (ColumnLeaves (unsigned_abs g.E.Exact.MOST) d l.row j);
     }
 

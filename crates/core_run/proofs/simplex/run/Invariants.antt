@@ -1,7 +1,7 @@
 use Rattle.std.proofs.Common.{unsigned_abs}
 use Rattle.core_rules.specs.Candidates.{before}
 use Rattle.core_rules.specs.Rules.{rule_view}
-use Rattle.core_run.specs.Steps.{HasRun}
+use Rattle.core_run.specs.Widths.{HasRun}
 use Rattle.core_run.proofs.simplex.run.Given as goal
 
 abbrev pub invariant-loop-pivots : goal.invariant-loop-pivots

@@ -2,7 +2,7 @@ use Rattle.std.proofs.Common.{◌≡◌, ◌≢◌, ℕ, suc, ◌-◌, ◌<◌, 
 use Rattle.std.proofs.lemmas.Bool.{cases_eq}
 use Rattle.fractions.specs.Fraction.{Fraction, zero_q, one_q}
 use Rattle.core_dict.proofs.Choice.{at_equal, at_other}
-use Rattle.core_sparse.specs.Items.{number, IsWithin128}
+use Rattle.core_sparse.specs.Items.{number, AreItems}
 use Rattle.core_sparse.proofs.Places.{kept_none}
 use Rattle.core_sparse.proofs.fill.costs.Goals as goal
 
@@ -15,7 +15,7 @@ keep-requires g c =
 pub returns-clause-kept : goal.returns-clause-kept
 returns-clause-kept g c =
     c.in_ok-keep.ensures.kept c.args.cols (omega (arith, c.requires))
-    (subst (IsWithin128 g.E.Exact.value c.args.cols) (sym c.new-all.ensures.items) (kept_none g.E.Exact.value c.args.cols))
+    (subst (AreItems g.E.Exact.value c.args.cols) (sym c.new-all.ensures.items) (kept_none g.E.Exact.value c.args.cols))
 
 -- a number that is 1 in column n - 1 alone
 alone : (n : ℕ) (a : ℕ → Fraction) → 0 < n → a (n - 1) ≡ one_q → ((j : ℕ) → j ≢ n - 1 → a j ≡ zero_q) → (j : ℕ)

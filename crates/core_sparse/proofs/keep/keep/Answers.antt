@@ -1,6 +1,6 @@
 use Rattle.std.proofs.Common.{◌<◌, List, sym, ap, ◌∙◌, subst, arith}
 use Rattle.core_dict.proofs.Outcomes.{apart}
-use Rattle.core_sparse.specs.Items.{col_at, number, IsWithin128}
+use Rattle.core_sparse.specs.Items.{col_at, number, AreItems}
 use Rattle.core_sparse.specs.SparseLaw.{number_none}
 use Rattle.core_sparse.proofs.Places.{kept_pushed, number_last, number_others}
 use Rattle.core_sparse.proofs.keep.keep.Goals as goal
@@ -13,7 +13,7 @@ returns-then-is_zero-clause-here g c =
 
 pub returns-clause-kept : goal.returns-clause-kept
 returns-clause-kept g c =
-    λ n l h. subst (λ (zs : List _). IsWithin128 g.E.Exact.value n zs) (sym c.in_ok-push.ensures)
+    λ n l h. subst (λ (zs : List _). AreItems g.E.Exact.value n zs) (sym c.in_ok-push.ensures)
     (kept_pushed g.E.Exact.value n c.args.items.now.items (record { col = c.args.col; value = c.args.value }) h l
     c.requires.behind (λ e. apart (sym c.if-is_zero.false ∙ c.is_zero.ensures.1 e)))
 

@@ -1,7 +1,7 @@
 use Rattle.std.proofs.Common.{◌+◌, ◌<◌, List, unsigned_abs, sym, subst, arith, refl, ap, ◌∙◌, length}
 use Rattle.std.proofs.Math.Seq.{map-set_same}
 use Rattle.std.proofs.lemmas.List.{get_or_default}
-use Rattle.core_sparse.specs.Items.{IsWithin128}
+use Rattle.core_sparse.specs.Items.{AreItems}
 use Rattle.core_sparse.specs.Steps.{RowLeaves}
 use Rattle.core_sparse.specs.declared.row.Row.{Row}
 use Rattle.core_sparse.specs.declared.row.Slot.{Slot}
@@ -21,7 +21,7 @@ pub make-requires-clause-before : goal.make-requires-clause-before
 make-requires-clause-before g c =
     let at : c.loop-i.i < length c.loop-i.slots = omega (arith, c.loop-i-test.true, c.loop-i.auto.slots) in
     let x = c.index-slots-i.result in
-    subst (λ (y : Row _). IsWithin128 g.E.Exact.value c.args.cols y.items.items)
+    subst (λ (y : Row _). AreItems g.E.Exact.value c.args.cols y.items.items)
     (sym (same_row c.loop-i.slots c.args.slots.now c.loop-i.i x c.loop-i.invariant.rows at))
     (c.requires.before c.loop-i.i x c.loop-i-test.true)
 

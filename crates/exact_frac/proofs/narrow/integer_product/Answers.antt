@@ -1,6 +1,6 @@
 use Rattle.std.proofs.Common.{◌≡◌, ◌*ℤ◌, ◌<◌, ℤ, unsigned_abs, ap₂, ◌∙◌, subst, refl, to_z, of_z, SFits, rules, lit≤}
 use mir.Syntax.{w64}
-use Rattle.exact_frac.specs.Within.{most64}
+use Rattle.core_sums.specs.Widths.{most64}
 use Rattle.exact_frac.specs.Value64.{value64}
 use Rattle.exact_frac.proofs.Widths.{read}
 use Rattle.exact_frac.proofs.Integers.{integer_times, integer_times_leaves}

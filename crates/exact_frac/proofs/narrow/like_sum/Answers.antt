@@ -1,7 +1,7 @@
 use Rattle.std.proofs.Common.{◌≡◌, ◌+ℤ◌, ◌<◌, ℤ, pos, unsigned_abs, ap₂, sym, ◌∙◌, subst, refl, to_z, of_z, SFits, rules}
 use mir.Syntax.{w64}
 use Rattle.fractions.specs.Fraction.{reduce}
-use Rattle.exact_frac.specs.Within.{most64}
+use Rattle.core_sums.specs.Widths.{most64}
 use Rattle.exact_frac.specs.Value64.{value64}
 use Rattle.exact_frac.proofs.Widths.{read}
 use Rattle.exact_frac.proofs.Alike.{like_plus, like_plus_leaves, whole_plus, zero_plus}

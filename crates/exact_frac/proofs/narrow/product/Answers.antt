@@ -1,7 +1,7 @@
 use Rattle.std.proofs.Common.{◌∙◌}
 use Rattle.fractions.proofs.Laws.{*ℚ_comm}
 use Rattle.exact_frac.specs.Value64.{value64}
-use Rattle.exact_frac.specs.Within.{most64}
+use Rattle.core_sums.specs.Widths.{most64}
 use Rattle.exact_frac.proofs.Units.{exchanged-leaves, unit-stays}
 use Rattle.exact_frac.proofs.narrow.product.Goals as goal
 

@@ -6,7 +6,7 @@ use Rattle.fractions.specs.Gcd.{gcd}
 use Rattle.fractions.specs.Leaves.{lcm}
 use Rattle.fractions.proofs.Leaves.{lcm_pos}
 use Rattle.exact_frac.specs.Signed.{signed}
-use Rattle.exact_frac.specs.Within.{most64}
+use Rattle.core_sums.specs.Widths.{most64}
 use Rattle.exact_frac.specs.Value64.{value64}
 use Rattle.exact_frac.proofs.Widths.{read}
 use Rattle.exact_frac.proofs.Shared.{shared}

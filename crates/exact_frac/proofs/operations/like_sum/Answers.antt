@@ -1,7 +1,7 @@
 use Rattle.std.proofs.Common.{◌≡◌, ◌+ℤ◌, ◌<◌, ℤ, pos, unsigned_abs, ap₂, sym, ◌∙◌, subst, refl, to_z, of_z, SFits, rules}
 use mir.Syntax.{w128}
 use Rattle.fractions.specs.Fraction.{reduce}
-use Rattle.exact_frac.specs.Within.{most128}
+use Rattle.core_sums.specs.Widths.{most}
 use Rattle.exact_frac.specs.Value128.{value128}
 use Rattle.exact_frac.proofs.Widths.{read}
 use Rattle.exact_frac.proofs.Alike.{like_plus, like_plus_leaves, whole_plus, zero_plus}
@@ -11,8 +11,8 @@ pub returns-in_err-total-clause-left : goal.returns-in_err-total-clause-left
 returns-in_err-total-clause-left c =
     let first : to_z w128 (of_z w128 c.numerator.result) ≡ c.args.q.num = read w128 (record { sfits = c.numerator.type_inv }) c.numerator.ensures in
     let second : to_z w128 (of_z w128 c.numerator-2.result) ≡ c.args.r.num = read w128 (record { sfits = c.numerator-2.type_inv }) c.numerator-2.ensures in
-    let leaves = like_plus_leaves (value128 c.args.q) (value128 c.args.r) c.requires most128 (record { num_in = c.args.q.num_in; den_in = c.args.q.den_in }) (record { num_in = c.args.r.num_in; den_in = c.args.r.den_in }) in
-    (λ _. leaves.1 (subst (λ (z : ℤ). most128 < unsigned_abs z) (ap₂ ◌+ℤ◌ first second) (c.in_err-total.ensures.left.0 refl)), λ _. c.from_residual.ensures.0)
+    let leaves = like_plus_leaves (value128 c.args.q) (value128 c.args.r) c.requires most (record { num_in = c.args.q.num_in; den_in = c.args.q.den_in }) (record { num_in = c.args.r.num_in; den_in = c.args.r.den_in }) in
+    (λ _. leaves.1 (subst (λ (z : ℤ). most < unsigned_abs z) (ap₂ ◌+ℤ◌ first second) (c.in_err-total.ensures.left.0 refl)), λ _. c.from_residual.ensures.0)
 
 pub returns-then-is_integer-clause-exact : goal.returns-then-is_integer-clause-exact
 returns-then-is_integer-clause-exact c =
@@ -27,8 +27,8 @@ pub returns-then-is_integer-clause-left : goal.returns-then-is_integer-clause-le
 returns-then-is_integer-clause-left c =
     let first : to_z w128 (of_z w128 c.numerator.result) ≡ c.args.q.num = read w128 (record { sfits = c.numerator.type_inv }) c.numerator.ensures in
     let second : to_z w128 (of_z w128 c.numerator-2.result) ≡ c.args.r.num = read w128 (record { sfits = c.numerator-2.type_inv }) c.numerator-2.ensures in
-    let leaves = like_plus_leaves (value128 c.args.q) (value128 c.args.r) c.requires most128 (record { num_in = c.args.q.num_in; den_in = c.args.q.den_in }) (record { num_in = c.args.r.num_in; den_in = c.args.r.den_in }) in
-    (λ e. absurd (cc e), λ l. c.in_ok-total.ensures.left.1 (subst (λ (z : ℤ). most128 < unsigned_abs z) (sym (ap₂ ◌+ℤ◌ first second)) (leaves.0 l)))
+    let leaves = like_plus_leaves (value128 c.args.q) (value128 c.args.r) c.requires most (record { num_in = c.args.q.num_in; den_in = c.args.q.den_in }) (record { num_in = c.args.r.num_in; den_in = c.args.r.den_in }) in
+    (λ e. absurd (cc e), λ l. c.in_ok-total.ensures.left.1 (subst (λ (z : ℤ). most < unsigned_abs z) (sym (ap₂ ◌+ℤ◌ first second)) (leaves.0 l)))
 
 pub returns-then-total-eq0-clause-exact : goal.returns-then-total-eq0-clause-exact
 returns-then-total-eq0-clause-exact c =
@@ -43,15 +43,15 @@ pub returns-then-total-eq0-clause-left : goal.returns-then-total-eq0-clause-left
 returns-then-total-eq0-clause-left c =
     let first : to_z w128 (of_z w128 c.numerator.result) ≡ c.args.q.num = read w128 (record { sfits = c.numerator.type_inv }) c.numerator.ensures in
     let second : to_z w128 (of_z w128 c.numerator-2.result) ≡ c.args.r.num = read w128 (record { sfits = c.numerator-2.type_inv }) c.numerator-2.ensures in
-    let leaves = like_plus_leaves (value128 c.args.q) (value128 c.args.r) c.requires most128 (record { num_in = c.args.q.num_in; den_in = c.args.q.den_in }) (record { num_in = c.args.r.num_in; den_in = c.args.r.den_in }) in
-    (λ e. absurd (cc e), λ l. c.in_ok-total.ensures.left.1 (subst (λ (z : ℤ). most128 < unsigned_abs z) (sym (ap₂ ◌+ℤ◌ first second)) (leaves.0 l)))
+    let leaves = like_plus_leaves (value128 c.args.q) (value128 c.args.r) c.requires most (record { num_in = c.args.q.num_in; den_in = c.args.q.den_in }) (record { num_in = c.args.r.num_in; den_in = c.args.r.den_in }) in
+    (λ e. absurd (cc e), λ l. c.in_ok-total.ensures.left.1 (subst (λ (z : ℤ). most < unsigned_abs z) (sym (ap₂ ◌+ℤ◌ first second)) (leaves.0 l)))
 
 pub returns-clause-left : goal.returns-clause-left
 returns-clause-left c =
     let first : to_z w128 (of_z w128 c.numerator.result) ≡ c.args.q.num = read w128 (record { sfits = c.numerator.type_inv }) c.numerator.ensures in
     let second : to_z w128 (of_z w128 c.numerator-2.result) ≡ c.args.r.num = read w128 (record { sfits = c.numerator-2.type_inv }) c.numerator-2.ensures in
-    let leaves = like_plus_leaves (value128 c.args.q) (value128 c.args.r) c.requires most128 (record { num_in = c.args.q.num_in; den_in = c.args.q.den_in }) (record { num_in = c.args.r.num_in; den_in = c.args.r.den_in }) in
-    (λ e. absurd (cc e), λ l. c.in_ok-total.ensures.left.1 (subst (λ (z : ℤ). most128 < unsigned_abs z) (sym (ap₂ ◌+ℤ◌ first second)) (leaves.0 l)))
+    let leaves = like_plus_leaves (value128 c.args.q) (value128 c.args.r) c.requires most (record { num_in = c.args.q.num_in; den_in = c.args.q.den_in }) (record { num_in = c.args.r.num_in; den_in = c.args.r.den_in }) in
+    (λ e. absurd (cc e), λ l. c.in_ok-total.ensures.left.1 (subst (λ (z : ℤ). most < unsigned_abs z) (sym (ap₂ ◌+ℤ◌ first second)) (leaves.0 l)))
 
 pub returns-clause-exact : goal.returns-clause-exact
 returns-clause-exact c =

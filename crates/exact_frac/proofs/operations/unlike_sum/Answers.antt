@@ -4,7 +4,7 @@ use Rattle.fractions.specs.Gcd.{gcd}
 use Rattle.fractions.specs.Leaves.{lcm}
 use Rattle.fractions.proofs.Leaves.{lcm_pos}
 use Rattle.exact_frac.specs.Signed.{signed}
-use Rattle.exact_frac.specs.Within.{most128}
+use Rattle.core_sums.specs.Widths.{most}
 use Rattle.exact_frac.specs.Value128.{value128}
 use Rattle.exact_frac.specs.Whole.{integer}
 use Rattle.exact_frac.proofs.Signs.{abs-signed}
@@ -19,7 +19,7 @@ returns-in_err-left-clause-left c =
     let qn = c.requires.left_not_zero in
     let rn = c.requires.right_not_zero in
     let x : c.quotient-left_factor.result ≡ r.den / gcd q.den r.den = cc in
-    (λ _. left_leaves q r most128 c.quotient-left_factor.result x qn rn (c.in_err-left.ensures.left.0 refl), λ _. c.from_residual-in_err-left.ensures.0)
+    (λ _. left_leaves q r most c.quotient-left_factor.result x qn rn (c.in_err-left.ensures.left.0 refl), λ _. c.from_residual-in_err-left.ensures.0)
 
 pub returns-in_err-right-clause-left : goal.returns-in_err-right-clause-left
 returns-in_err-right-clause-left c =
@@ -28,7 +28,7 @@ returns-in_err-right-clause-left c =
     let qn = c.requires.left_not_zero in
     let rn = c.requires.right_not_zero in
     let y : c.quotient-right_factor.result ≡ q.den / gcd q.den r.den = cc in
-    (λ _. right_leaves q r most128 c.quotient-right_factor.result y qn rn (c.in_err-right.ensures.left.0 refl), λ _. c.from_residual-in_err-right.ensures.0)
+    (λ _. right_leaves q r most c.quotient-right_factor.result y qn rn (c.in_err-right.ensures.left.0 refl), λ _. c.from_residual-in_err-right.ensures.0)
 
 pub returns-in_err-total-clause-left : goal.returns-in_err-total-clause-left
 returns-in_err-total-clause-left c =
@@ -37,7 +37,7 @@ returns-in_err-total-clause-left c =
     let qn = c.requires.left_not_zero in
     let rn = c.requires.right_not_zero in
     let z : integer c.in_ok-left.left +ℤ integer c.in_ok-right.right ≡ signed (is_negative q.num) (left_size q r) +ℤ signed (is_negative r.num) (right_size q r) = cc (c.in_ok-left.ensures.exact, c.in_ok-right.ensures.exact) in
-    (λ _. total_leaves q r most128 (integer c.in_ok-left.left +ℤ integer c.in_ok-right.right) z qn rn (c.in_err-total.ensures.left.0 refl), λ _. c.from_residual-in_err-total.ensures.0)
+    (λ _. total_leaves q r most (integer c.in_ok-left.left +ℤ integer c.in_ok-right.right) z qn rn (c.in_err-total.ensures.left.0 refl), λ _. c.from_residual-in_err-total.ensures.0)
 
 pub divided-requires-clause-positive : goal.divided-requires-clause-positive
 divided-requires-clause-positive c =
@@ -73,6 +73,6 @@ returns-clause-left c =
     let y : c.quotient-right_factor.result ≡ q.den / gcd q.den r.den = cc in
     let z : integer c.in_ok-left.left +ℤ integer c.in_ok-right.right ≡ signed (is_negative q.num) (left_size q r) +ℤ signed (is_negative r.num) (right_size q r) = cc (c.in_ok-left.ensures.exact, c.in_ok-right.ensures.exact) in (
       λ e. absurd (cc e),
-      from_leaving q r most128 c.in_ok-common.common c.quotient-left_factor.result c.quotient-right_factor.result (integer c.in_ok-left.left +ℤ integer c.in_ok-right.right) n x y z
-          (λ l. c.in_ok-common.ensures.left.1 (subst (λ (m : ℕ). most128 < m) c.in_ok-common.ensures.exact l)) c.in_ok-left.ensures.left.1 c.in_ok-right.ensures.left.1 c.in_ok-total.ensures.left.1,
+      from_leaving q r most c.in_ok-common.common c.quotient-left_factor.result c.quotient-right_factor.result (integer c.in_ok-left.left +ℤ integer c.in_ok-right.right) n x y z
+          (λ l. c.in_ok-common.ensures.left.1 (subst (λ (m : ℕ). most < m) c.in_ok-common.ensures.exact l)) c.in_ok-left.ensures.left.1 c.in_ok-right.ensures.left.1 c.in_ok-total.ensures.left.1,
     )

@@ -4,12 +4,12 @@ use Rattle.std.proofs.lemmas.Int.{to_z-of_z}
 use Rattle.core_model.specs.Closing.{cash_of}
 use Rattle.core_model.specs.OfCase.{planned}
 use Rattle.core_replay.specs.Ledger.{paid_on}
-use Rattle.core_replay.proofs.Running.{due-now, due-next, total-more, entered-more, later-stay, sums-leave-later}
+use Rattle.core_replay.proofs.Running.{payable-now, payable-next, total-more, entered-more, later-stay, sums-leave-later}
 use Rattle.core_replay.proofs.ledger.Run.day.Goals as goal
 
-pub day_sums-requires-clause-due : goal.day_sums-requires-clause-due
-day_sums-requires-clause-due c =
-    c.on-due.ensures ∙ due-now c.args.calendar.now.case (planned c.args.calendar.now) c.args.scenario c.args.t c.day_lines.new.due c.requires.day c.in_ok-day_lines.ensures.due
+pub day_sums-requires-clause-payable : goal.day_sums-requires-clause-payable
+day_sums-requires-clause-payable c =
+    c.on-payable.ensures ∙ payable-now c.args.calendar.now.case (planned c.args.calendar.now) c.args.scenario c.args.t c.day_lines.new.payable c.requires.day c.in_ok-day_lines.ensures.payable
 
 pub returns-in_default-clause-stops : goal.returns-in_default-clause-stops
 returns-in_default-clause-stops c =
@@ -31,7 +31,7 @@ returns-clause-after c =
     (simp to_z-of_z at c.set-2.ensures) ∙ ap (λ (i : ℕ). slice_set c.args.self.now.ledger.total i c.in-Some.total) c.from-2.ensures in
     record {
       lines = c.in_ok-day_lines.ensures.standing;
-      due = due-next c.args.calendar.now.case a k c.args.t c.day_lines.new.due c.in_ok-day_lines.ensures.due;
+      payable = payable-next c.args.calendar.now.case a k c.args.t c.day_lines.new.payable c.in_ok-day_lines.ensures.payable;
       total = simp to_z-of_z (total-more c.args.calendar.now.case a k c.args.t c.in-Some.total c.in-Some.ensures.1);
       den = c.requires.before.den;
       paid_so_far = rw paid (entered-more c.args.calendar.now.case (paid_on c.args.calendar.now.case a k) c.args.t c.args.self.now.ledger.paid c.in-Some.paid c.requires.day c.in-Some.ensures.0 c.requires.before.paid_so_far);

@@ -2,7 +2,7 @@ use Rattle.std.proofs.Common.{◌≡◌, ℕ, ◌<◌, true, List, length, get_o
 use Rattle.std.specs.Vec.{with_item}
 use Rattle.std.proofs.lemmas.List.{with_items_is, get_or_default, length-set}
 use Rattle.fractions.specs.Fraction.{Fraction}
-use Rattle.core_sparse.specs.Items.{IsWithin128}
+use Rattle.core_sparse.specs.Items.{AreItems}
 use Rattle.core_sparse.specs.Steps.{entry_of, AreKept, IsPut, IsExchanged}
 use Rattle.core_sparse.specs.Sparse.{rows_of, tableau}
 use Rattle.core_sparse.specs.SparseLaw.{slot_entries, sparse_is_dictionary}
@@ -46,7 +46,7 @@ invariant_of-self g c =
           s.costs.items s.basic.items s.nonbasic.items s.rows s.kept s.costs_kept c.requires.row_in c.requires.col_in
           c.requires.entry s.own s.spare_costs.items c.requires.prepared x w at refl c.swap.ensures.x_after ys long
           exchanged c.exchange_costs.new.costs.items c.exchange_costs.ensures.changed c.exchange_costs.ensures.same));
-      costs_kept = subst (λ (n : ℕ). IsWithin128 read n c.exchange_costs.new.costs.items) (sym columns)
+      costs_kept = subst (λ (n : ℕ). AreItems read n c.exchange_costs.new.costs.items) (sym columns)
           (costs_kept_after read c.args.row c.args.col s.slots.items
           s.costs.items s.basic.items s.nonbasic.items s.rows s.kept s.costs_kept c.requires.row_in c.requires.col_in
           c.requires.entry s.own s.spare_costs.items c.requires.prepared x w at refl c.swap.ensures.x_after ys long

@@ -2,7 +2,7 @@ use Rattle.std.proofs.Common.{◌≡◌, ◌≢◌, ℕ, ◌<◌, List, length, 
 use Rattle.std.proofs.lemmas.List.{with_items_is}
 use Rattle.fractions.specs.Fraction.{zero_q}
 use Rattle.core_dict.specs.Rows.{EntriesLeave}
-use Rattle.core_sparse.specs.Items.{IsWithin128, IsRising, number}
+use Rattle.core_sparse.specs.Items.{AreItems, IsRising, number}
 use Rattle.core_sparse.specs.Steps.{entry_of, AreKept, AreAfter, IsMade, IsOwnAfter, OwnRowLeaves, RowLeaves}
 use Rattle.core_sparse.specs.Sparse.{rows_of, tableau, IsPrepared}
 use Rattle.core_sparse.specs.declared.row.Slot.{Slot}
@@ -27,8 +27,8 @@ own_row-requires g c =
     let n_is : c.len-cols.result ≡ length s.nonbasic.items = omega (arith, c.len-cols.ensures, s.nonbasic.ok.0) in
     let at = subst (λ (n : ℕ). c.args.row < n) (sym s.rows) c.requires.row_in in
     record {
-      before = subst (λ (n : ℕ). IsWithin128 read n x.row.items.items) (sym n_is)
-          (subst (λ (y : Slot _). IsWithin128 read (length s.nonbasic.items) y.row.items.items) (sym c.index-slot.ensures)
+      before = subst (λ (n : ℕ). AreItems read n x.row.items.items) (sym n_is)
+          (subst (λ (y : Slot _). AreItems read (length s.nonbasic.items) y.row.items.items) (sym c.index-slot.ensures)
           (s.kept c.args.row x at));
       pivot = λ e. c.requires.entry (sym (pivot_is 0 read c.args.row c.args.col s.slots.items s.costs.items
           s.basic.items s.nonbasic.items s.rows c.requires.row_in x.row x (ap (λ (y : Slot _). y.row) c.index-slot.ensures)
@@ -121,7 +121,7 @@ make_costs-requires g c =
     s.basic.items s.nonbasic.items s.rows c.requires.row_in x.row x (ap (λ (y : Slot _). y.row) c.index-slot.ensures)
     (read c.number-pivot.result) c.number-pivot.ensures) ∙ e) in
     record {
-      before = subst (λ (n : ℕ). IsWithin128 read n s.costs.items) (sym n_is) s.costs_kept;
+      before = subst (λ (n : ℕ). AreItems read n s.costs.items) (sym n_is) s.costs_kept;
       own = c.in_ok-own_row.ensures.exact.kept;
       pivot = turns;
       turned = own_turns read c.len-cols.result c.args.col x.row c.own_row.new.after (read c.number-pivot.result) turns

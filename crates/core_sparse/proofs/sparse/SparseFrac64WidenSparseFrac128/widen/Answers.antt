@@ -2,7 +2,7 @@ use Rattle.std.proofs.Common.{ℕ, ◌<◌, List, length, get_or, sym, ap, ◌�
 use Rattle.exact_frac.specs.Value64.{value64}
 use Rattle.exact_frac.specs.Value128.{value128}
 use Rattle.core_dict.specs.Variables.{HaveVariables}
-use Rattle.core_sparse.specs.Items.{IsWithin128}
+use Rattle.core_sparse.specs.Items.{AreItems}
 use Rattle.core_sparse.specs.Steps.{AreKept, AreSame, IsWidened}
 use Rattle.core_sparse.specs.Sparse.{rows_of, tableau}
 use Rattle.core_sparse.proofs.Widened.{widened_kept, widened_costs, widened}
@@ -26,7 +26,7 @@ invariant_of-result c =
       kept = subst (λ (n : ℕ). AreKept value128 n c.in_ok-wide_slots.field-0.items) (sym columns)
           (widened_kept value64 value128 s.slots.items c.in_ok-wide_slots.field-0.items s.costs.items
           c.in_ok-wide_items.field-0.items s.basic.items s.nonbasic.items s.rows s.kept s.costs_kept rows each last);
-      costs_kept = subst (λ (n : ℕ). IsWithin128 value128 n c.in_ok-wide_items.field-0.items) (sym columns)
+      costs_kept = subst (λ (n : ℕ). AreItems value128 n c.in_ok-wide_items.field-0.items) (sym columns)
           (widened_costs value64 value128 s.slots.items c.in_ok-wide_slots.field-0.items s.costs.items
           c.in_ok-wide_items.field-0.items s.basic.items s.nonbasic.items s.rows s.kept s.costs_kept rows each last);
       variables = subst (λ (vs : List ℕ). HaveVariables vs c.in_ok-from_slice-2.field-0.items) (sym basic_is)

@@ -3,7 +3,7 @@ use Rattle.fractions.specs.Fraction.{Fraction, ◌-ℚ◌, ◌*ℚ◌}
 use Rattle.fractions.proofs.LessTimes.{less_zero, nothing_less, less_itself, no_leaving}
 use Rattle.fractions.proofs.Whole.{whole-zero}
 use Rattle.exact_frac.specs.Value64.{value64}
-use Rattle.exact_frac.specs.Within.{most64}
+use Rattle.core_sums.specs.Widths.{most64}
 use Rattle.exact_frac.proofs.LessTimes.{equal-stays}
 use Rattle.exact_frac.proofs.Results.{is_whole}
 use Rattle.exact_frac.proofs.frac64.Frac64Exact.less_times.Goals as goal

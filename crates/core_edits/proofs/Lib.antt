@@ -1,0 +1,5 @@
+mod Firsts
+mod RecordSteps
+mod KnownEdits
+mod ReadingEdits
+mod WorkedTexts
