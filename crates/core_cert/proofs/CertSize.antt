@@ -5,7 +5,7 @@ use Rattle.std.proofs.Math.Nat.{mul-le-mul}
 use Rattle.std.specs.Prelude.{if◌then◌else◌}
 use Rattle.std.proofs.lemmas.Fmt.{length-decimal-le_wide}
 use Rattle.core_sums.specs.Places.{at, days_to, each, row_at}
-use Rattle.core_rows.specs.Fields.{IsName, number_text, row_text}
+use Rattle.core_rows.specs.Fields.{IsName, most_bytes, number_text, row_text}
 use Rattle.core_rows.specs.Names.{Record}
 use Rattle.core_rows.specs.Written.{rows_text}
 use Rattle.core_book.specs.View.{CaseView, instrument, instrument_of, is_tiered, line, no_instrument, no_line, no_pool, pool, tiers}
@@ -17,7 +17,7 @@ use Rattle.core_model.specs.declared.cert.Weights.{Weights}
 use Rattle.core_model.specs.declared.cert.Cert.{Cert}
 use Rattle.core_model.specs.declared.cert.Cert.TheVariants.{Closes, Cannot}
 use Rattle.core_model.specs.Fits.{Fits, IsWithin128, WeightsFit}
-use Rattle.core_cert.specs.Written.{amount_on, amount_record, amount_records, cert_text, constraint_records, day_record, each_tier, first_record, floored, full_of, full_record, full_records, inner_records, instrument_limits, limit_on, limit_record, limit_records, line_amounts, line_fields, most_bytes, pool_days, pool_on, pool_records, scenario_days, scenario_on, scenario_records, side_word, tier_fields, version_word, word_record}
+use Rattle.core_cert.specs.Written.{amount_on, amount_record, amount_records, cert_text, constraint_records, day_record, each_tier, first_record, floored, full_of, full_record, full_records, inner_records, instrument_limits, limit_on, limit_record, limit_records, line_amounts, line_fields, pool_days, pool_on, pool_records, scenario_days, scenario_on, scenario_records, side_word, tier_fields, version_word, word_record}
 use Rattle.core_model.proofs.FewLines.{lines-few}
 use Rattle.core_cert.proofs.Printed.{rows_text-append, rows_text-cons, rows_text-none}
 use Rattle.core_sums.proofs.Within128.{at-kept}

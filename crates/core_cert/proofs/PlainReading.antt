@@ -19,12 +19,15 @@ use Rattle.core_cert.specs.declared.kinds.RecordKind.TheVariants.{Cert, Closes, 
 use Rattle.core_cert.specs.declared.faults.RecordFault.{RecordFault}
 use Rattle.core_cert.specs.declared.faults.RecordFault.TheVariants.{FirstNotCert, UnknownKind, OutOfOrder}
 use Rattle.core_cert.specs.Kinds.{followers, forms, is_kind, kind_of, word_of}
-use Rattle.core_cert.specs.Faults.{Faulty, case_fault, end_before, fault_of, fields_fault, first_fault, first_fault_after, is_follower, is_refusing, kind_step, last_record, later_fault, order_step, place_in}
+use Rattle.core_cert.specs.Faults.{case_fault, end_before, fault_of, fields_fault, first_fault, is_follower, is_refusing, judge, kind_step, last_record, later_fault, order_step, place_in}
 use Rattle.core_rows.specs.Steps.{fault_unless, first_of}
-use Rattle.core_cert.specs.Stated.{calendar_stated, cert_of, cert_of_records, cert_unless, last_number, number_at, numbers_of, weights_stated}
+use Rattle.core_cert.specs.Stated.{calendar_stated, cert_of, cert_of_records, last_number, number_at, numbers_of, weights_stated}
+use Rattle.core_rows.specs.FirstFault.{first_fault_after}
+use Rattle.core_rows.proofs.FirstFault.{sound-next, sound-states}
+use Rattle.core_cert.specs.Codes.{code_of}
 use Rattle.core_rows.proofs.FirstStep.{holds-from_none}
 use Rattle.core_cert.proofs.RoundTripOrder.{HasKind, kind-is, kind_of-word, same_kind}
-use Rattle.core_cert.proofs.RoundTripSound.{after_fault, last-put}
+use Rattle.core_cert.proofs.RoundTripSound.{last-put}
 
 -- the kinds that may stand in a certificate that refuses, from the second record on
 abbrev is_late : RecordKind → Bool
@@ -111,27 +114,16 @@ late-next c x xs r refuses last none = one-late r (followers true last.kind) (fo
     (sym (ap (λ b. is_follower b (kind_of (last_record (x ∷ xs))) r) refuses ∙ ap (λ k. is_follower true k r) (kind_of-word last.kind (last_record (x ∷ xs)) last.is))
     ∙ in-order c x xs r none)
 
--- where no record has a fault, the first of those left has none, nor have those after it
-none-after : (c : CaseView) (earlier : List Record) (r : Record) (rs : List Record) (o : Option RecordFault) → after_fault c earlier r rs o ≡ None
-    → (o ≡ None) × (first_fault_after c (earlier ++ (r ∷ [])) rs ≡ None)
-none-after c earlier r rs None e = (refl, e)
-none-after c earlier r rs (Some fault) e = cc
-
-sound-next : (c : CaseView) (earlier : List Record) (r : Record) (rs : List Record) → first_fault_after c earlier (r ∷ rs) ≡ None
-    → (fault_of c earlier r ≡ None) × (first_fault_after c (earlier ++ (r ∷ [])) rs ≡ None)
-unfolding first_fault_after
-sound-next c earlier r rs e = none-after c earlier r rs (fault_of c earlier r) e
-
 -- records of which none is a scenario
 abbrev NoScenario : List Record → Type 0
 NoScenario [] = Unit {0}
 NoScenario (r ∷ rs) = (is_kind Scenario r ≡ false) × NoScenario rs
 
 none-left : (c : CaseView) (x y : Record) (xs rs : List Record) → is_kind Cannot y ≡ true → IsLate (last_record (x ∷ y ∷ xs))
-    → first_fault_after c (x ∷ y ∷ xs) rs ≡ None → NoScenario rs
+    → first_fault_after (judge c) (x ∷ y ∷ xs) rs ≡ None → NoScenario rs
 none-left c x y xs [] refuses last sound = tt
 none-left c x y xs (r ∷ rs) refuses last sound =
-    let next : (fault_of c (x ∷ y ∷ xs) r ≡ None) × (first_fault_after c ((x ∷ y ∷ xs) ++ (r ∷ [])) rs ≡ None) = sound-next c (x ∷ y ∷ xs) r rs sound in
+    let next : (fault_of c (x ∷ y ∷ xs) r ≡ None) × (first_fault_after (judge c) ((x ∷ y ∷ xs) ++ (r ∷ [])) rs ≡ None) = sound-next (judge c) (x ∷ y ∷ xs) r rs sound in
     let late : IsLate r = late-next c x (y ∷ xs) r refuses last next.0 in
     (no-scenario r late, none-left c x y (xs ++ (r ∷ [])) rs refuses (subst IsLate (sym (last-put (x ∷ y ∷ xs) r)) late) next.1)
 
@@ -141,10 +133,10 @@ first-is c x none = kind-is Scenario Cert x (has-kind Cert x
 
 no-scenarios : (c : CaseView) (rs : List Record) → first_fault c rs ≡ None → is_refusing rs ≡ true → NoScenario rs
 no-scenarios c [] sound refuses = tt
-no-scenarios c (x ∷ []) sound refuses = (first-is c x (sound-next c [] x [] sound).0, tt)
+no-scenarios c (x ∷ []) sound refuses = (first-is c x (sound-next (judge c) [] x [] sound).0, tt)
 no-scenarios c (x ∷ y ∷ rs) sound refuses =
-    let first : (fault_of c [] x ≡ None) × (first_fault_after c (x ∷ []) (y ∷ rs) ≡ None) = sound-next c [] x (y ∷ rs) sound in
-    let second : (fault_of c (x ∷ []) y ≡ None) × (first_fault_after c (x ∷ y ∷ []) rs ≡ None) = sound-next c (x ∷ []) y rs first.1 in
+    let first : (fault_of c [] x ≡ None) × (first_fault_after (judge c) (x ∷ []) (y ∷ rs) ≡ None) = sound-next (judge c) [] x (y ∷ rs) sound in
+    let second : (fault_of c (x ∷ []) y ≡ None) × (first_fault_after (judge c) (x ∷ y ∷ []) rs ≡ None) = sound-next (judge c) (x ∷ []) y rs first.1 in
     let late : IsLate y = record { kind = Cannot; late = refl; is = has-kind Cannot y refuses } in
     (first-is c x first.0, (no-scenario y late, none-left c x y [] rs refuses late second.1))
 
@@ -175,8 +167,6 @@ plain-records c rs sound = split (is_refusing rs) refl
 
 -- so does what is accepted
 pub accepted-plain : (c : CaseView) (cert : certs.Cert) (rs : List Record) → cert_of_records c rs ≡ Ok cert → IsPlainlyRefusing cert
-accepted-plain c cert rs = split (first_fault c rs) refl
-  where
-    split : (o : Option Faulty) → first_fault c rs ≡ o → cert_unless o (cert_of c rs) ≡ Ok cert → IsPlainlyRefusing cert
-    split None none e = let same : cert_of c rs ≡ cert = (cc) in subst IsPlainlyRefusing same (plain-records c rs none)
-    split (Some faulty) none e = cc
+accepted-plain c cert rs e =
+    let sound = sound-states code_of (first_fault c rs) (cert_of c rs) cert e in
+    subst IsPlainlyRefusing sound.1 (plain-records c rs sound.0)

@@ -5,7 +5,7 @@ use Rattle.core_sums.specs.Places.{below}
 use Rattle.core_model.specs.declared.cert.Cert.{Cert}
 use Rattle.core_model.specs.declared.cert.Cert.TheVariants.{Closes, Cannot}
 use Rattle.core_model.proofs.WorkedCases.{numbers, deep, falling}
-use Rattle.core_cert.specs.Faults.{first_fault_after}
+use Rattle.core_rows.specs.FirstFault.{first_fault_after}
 use Rattle.core_rows.specs.Steps.{by_form, first_of}
 use Rattle.core_cert.specs.Stated.{cert_of_bytes}
 

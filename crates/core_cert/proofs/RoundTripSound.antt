@@ -12,9 +12,11 @@ use Rattle.core_cert.specs.declared.kinds.RecordKind.TheVariants.{Cannot, Margin
 use Rattle.core_cert.specs.declared.forms.Form.TheVariants.{Version}
 use Rattle.core_cert.specs.Written.{first_record, version_word}
 use Rattle.core_cert.specs.declared.faults.RecordFault.{RecordFault}
-use Rattle.core_cert.specs.declared.faults.RecordFault.TheVariants.{OutOfOrder, UnknownKind, AfterEnd, NotRising, EndMissing}
+use Rattle.core_cert.specs.declared.faults.RecordFault.TheVariants.{FirstNotCert, OutOfOrder, UnknownKind, AfterEnd, NotRising, EndMissing}
 use Rattle.core_cert.specs.Kinds.{kind_of, is_kind, followers, forms, word_of}
-use Rattle.core_cert.specs.Faults.{Faulty, case_fault, end_before, fault_of, fields_fault, first_fault, first_fault_after, is_follower, is_refusing, key_step, kind_step, last_record, later_fault, line_step, margin_step, missing_end, name_step, order_step, place_in}
+use Rattle.core_cert.specs.Faults.{case_fault, end_before, fault_of, fields_fault, first_fault, is_follower, is_refusing, judge, key_step, kind_step, last_record, later_fault, line_step, margin_step, name_step, order_step, place_in}
+use Rattle.core_rows.specs.FirstFault.{first_fault_after, missing_after, missing_end}
+use Rattle.core_rows.proofs.FirstFault.{fault-here, none-left}
 use Rattle.core_rows.specs.Steps.{by_form, fault_unless, first_of}
 use Rattle.core_cert.proofs.RoundTripOrder.{HasKind, can_follow, kind-is, kind_of-word, same_kind}
 
@@ -113,37 +115,21 @@ sound_record c refusing x xs before r form last sound = first_of-three (end_befo
     later = ap (later_fault c (x ∷ xs) r) kind
         ∙ first_of-three (order_step (x ∷ xs) r) (fields_fault (forms c sound.kind) r) (case_fault c (x ∷ xs) sound.kind r) order sound.fields of_case
 
--- the records after one without a fault
-abbrev pub after_fault : CaseView → List Record → Record → List Record → Option RecordFault → Option Faulty
-after_fault c earlier r rs (Some fault) = Some (suc (length earlier), fault)
-after_fault c earlier r rs None = first_fault_after c (earlier ++ (r ∷ [])) rs
-
-pub next_fault : (c : CaseView) (earlier : List Record) (r : Record) (rs : List Record) → fault_of c earlier r ≡ None
-    → first_fault_after c earlier (r ∷ rs) ≡ first_fault_after c (earlier ++ (r ∷ [])) rs
-unfolding first_fault_after
-next_fault c earlier r rs sound = ap (after_fault c earlier r rs) sound
-
 -- the record that was put last
 pub last-put : (earlier : List Record) (r : Record) → last_record (earlier ++ (r ∷ [])) ≡ r
 last-put earlier r = get_or_push earlier r [] (length (earlier ++ (r ∷ [])) - 1) (omega (arith, length-append earlier (r ∷ [])))
 
 -- where the last record is the end, none is missing
-abbrev missing_by : Bool → Faulty → Option Faulty
-missing_by is faulty = if is then None else Some faulty
-
-ended : (x : Record) (xs : List Record) (before : Record) → last_record (x ∷ xs) ≡ before → HasKind End before → missing_end (x ∷ xs) ≡ None
-ended x xs before last is =
-    let found : is_kind End (last_record (x ∷ xs)) ≡ true = ap (λ s. is_kind End s) last ∙ kind-is End End before is in
-    ap (λ b. missing_by b (suc (length (x ∷ xs)), EndMissing)) found
+ended : (c : CaseView) (x : Record) (xs : List Record) (before : Record) → last_record (x ∷ xs) ≡ before → HasKind End before → missing_end (judge c) (x ∷ xs) ≡ None
+ended c x xs before last is = ap (λ b. missing_after (length (x ∷ xs)) b FirstNotCert EndMissing) (ap (is_kind End) last ∙ kind-is End End before is)
 
 -- sound records that end with the end have no fault
 pub sound_records : (c : CaseView) (refusing : Bool) (x y : Record) (xs : List Record) (before : Record) (rs : List Record)
     → is_kind Cannot y ≡ refusing → last_record (x ∷ y ∷ xs) ≡ before → AreSound c refusing before rs → HasKind End (last_after before rs)
-    → first_fault_after c (x ∷ y ∷ xs) rs ≡ None
-unfolding first_fault_after
-sound_records c refusing x y xs before [] form last sound end = ended x (y ∷ xs) before last end
+    → first_fault_after (judge c) (x ∷ y ∷ xs) rs ≡ None
+sound_records c refusing x y xs before [] form last sound end = none-left (judge c) (x ∷ y ∷ xs) ∙ ended c x (y ∷ xs) before last end
 sound_records c refusing x y xs before (r ∷ rs) form last sound end =
-    next_fault c (x ∷ y ∷ xs) r rs (sound_record c refusing x (y ∷ xs) before r form last sound.0)
+    fault-here (judge c) (x ∷ y ∷ xs) r rs None (sound_record c refusing x (y ∷ xs) before r form last sound.0)
     ∙ sound_records c refusing x y (xs ++ (r ∷ [])) r rs form (last-put (x ∷ y ∷ xs) r) sound.1 end
 
 -- the first record has no fault
@@ -161,6 +147,6 @@ pub sound_text : (c : CaseView) (refusing : Bool) (second : Record) (rest : List
     → is_kind Cannot second ≡ refusing → IsSound c false (first_record c) second → AreSound c refusing second rest → HasKind End (last_after second rest)
     → first_fault c (first_record c ∷ second ∷ rest) ≡ None
 sound_text c refusing second rest form sound later end =
-    next_fault c [] (first_record c) (second ∷ rest) (first-sound c)
-    ∙ next_fault c (first_record c ∷ []) second rest (sound_record c false (first_record c) [] (first_record c) second refl refl sound)
+    fault-here (judge c) [] (first_record c) (second ∷ rest) None (first-sound c)
+    ∙ fault-here (judge c) (first_record c ∷ []) second rest None (sound_record c false (first_record c) [] (first_record c) second refl refl sound)
     ∙ sound_records c refusing (first_record c) second [] second rest form refl later end

@@ -17,7 +17,9 @@ use Rattle.core_cert.specs.declared.kinds.RecordKind.{RecordKind}
 use Rattle.core_cert.specs.declared.kinds.RecordKind.TheVariants.{Cert, Cannot, End}
 use Rattle.core_cert.specs.Kinds.{is_kind}
 use Rattle.core_cert.specs.Faults.{first_fault}
-use Rattle.core_cert.specs.Stated.{cert_of, cert_of_bytes, cert_of_records, cert_unless, number_at, numbers_of, places_of}
+use Rattle.core_rows.specs.FirstFault.{unless_faulty}
+use Rattle.core_cert.specs.Codes.{code_of}
+use Rattle.core_cert.specs.Stated.{cert_of, cert_of_bytes, cert_of_records, number_at, numbers_of, places_of}
 use Rattle.core_cert.proofs.RoundTripOrder.{HasKind, can_follow, kind-is, same_kind}
 use Rattle.core_cert.proofs.RoundTripSound.{AreSound, last_after, sound_text}
 use Rattle.core_cert.proofs.RoundTripBlocks.{IsAfter, IsGood, States, good-sound, is_at, states-number}
@@ -28,7 +30,7 @@ use Rattle.core_model.specs.declared.cert.Cert as certs
 -- sound rows that state a certificate are read as it
 read-back : (c : CaseView) (rs : List Record) (cert : certs.Cert) → All IsPlainRow rs → first_fault c rs ≡ None → cert_of c rs ≡ cert → cert_of_bytes c (rows_text rs) ≡ Ok cert
 unfolding cert_of_bytes
-read-back c rs cert plain sound is = ap (cert_of_records c) (rows-read rs plain) ∙ ap (λ f. cert_unless f (cert_of c rs)) sound ∙ ap Ok is
+read-back c rs cert plain sound is = ap (cert_of_records c) (rows-read rs plain) ∙ ap (λ f. unless_faulty code_of f (cert_of c rs)) sound ∙ ap Ok is
 
 -- a list of so many numbers, each of which is stated, is stated
 pub numbers-stated : (c : CaseView) (rs : List Record) (kind : RecordKind) (xs : List ℤ) → length xs ≡ places_of c kind

@@ -7,6 +7,8 @@ use Rattle.std.specs.List.{list_any, position_or_len}
 use Rattle.std.specs.Str.{bytes_eq}
 use Rattle.core_sums.specs.Places.{below, row_at}
 use Rattle.core_rows.specs.Names.{Record, field, place_of}
+use Rattle.core_rows.specs.FirstFault.{Faulty, Judge}
+use Rattle.core_rows.specs.FirstFault as FirstFault
 use Rattle.core_rows.specs.Steps.{fault_unless, first_of}
 use Rattle.core_rows.specs.Steps as Steps
 use Rattle.core_rows.specs.Fields.{wide, name_of}
@@ -26,9 +28,13 @@ use Rattle.core_cert.specs.Kinds.{kind_of, is_kind, followers, forms}
 abbrev pub last_record : List Record → Record
 last_record rs = row_at rs (length rs - 1)
 
+-- whether the last of some records is `end`
+abbrev pub has_ended : List Record → Bool
+has_ended rs = is_kind End (last_record rs)
+
 -- step 1: no record stands after `end`
 abbrev pub end_before : List Record → Option RecordFault
-end_before earlier = fault_unless (not (is_kind End (last_record earlier))) AfterEnd
+end_before earlier = fault_unless (not (has_ended earlier)) AfterEnd
 
 -- step 2: the kind
 abbrev pub kind_step : ℕ → Record → Option RecordFault
@@ -164,23 +170,9 @@ abbrev pub fault_of : CaseView → List Record → Record → Option RecordFault
 fault_of c earlier r =
     first_of (end_before earlier ∷ kind_step (length earlier) r ∷ later_fault c earlier r (kind_of r) ∷ [])
 
--- A faulty record by its number, from 1, and its fault.
-abbrev pub Faulty : Type 0
-Faulty = ℕ × RecordFault
+-- how a certificate of a case is judged, record by record
+abbrev pub judge : CaseView → Judge RecordFault
+judge c = record { fault_of = fault_of c; has_ended = has_ended; not_begun = FirstNotCert; not_ended = EndMissing }
 
--- the fault where no record is left: the last one is not `end`
-abbrev pub missing_end : List Record → Option Faulty
-missing_end [] = Some (1, FirstNotCert)
-missing_end (r ∷ rs) =
-    if is_kind End (last_record (r ∷ rs)) then None else Some (suc (length (r ∷ rs)), EndMissing)
-
--- the first fault of the records, where these came before
-unfoldable pub first_fault_after : CaseView → List Record → List Record → Option Faulty
-first_fault_after c earlier [] = missing_end earlier
-first_fault_after c earlier (r ∷ rs) = elim (fault_of c earlier r) [
-  | Some fault ↦ Some (suc (length earlier), fault)
-  | None ↦ first_fault_after c (earlier ++ (r ∷ [])) rs
-]
-
-abbrev pub first_fault : CaseView → List Record → Option Faulty
-first_fault c rs = first_fault_after c [] rs
+abbrev pub first_fault : CaseView → List Record → Option (Faulty RecordFault)
+first_fault c rs = FirstFault.first_fault (judge c) rs

@@ -2,8 +2,7 @@
 -- may stand after it.
 use Rattle.std.specs.Prelude.{ℕ, List, [], ◌∷◌, ◌++◌, codes, Bool, true, false, if◌then◌else◌, Option}
 use Rattle.std.specs.List.{find}
-use Rattle.std.specs.Str.{bytes_eq}
-use Rattle.core_rows.specs.Names.{Record, field}
+use Rattle.core_rows.specs.Names.{Record, begins_with}
 use Rattle.core_book.specs.View.{CaseView, tiers, is_tiered}
 use Rattle.core_cert.specs.declared.kinds.RecordKind.{RecordKind}
 use Rattle.core_cert.specs.declared.kinds.RecordKind.TheVariants.{Cert, Closes, Cannot, Amount, Loss, Margin, Weights, Scenario, Limit, Pool, Full, End}
@@ -29,7 +28,7 @@ kinds = Cert ∷ Closes ∷ Cannot ∷ Amount ∷ Loss ∷ Margin ∷ Weights �
 
 -- whether a record is of a kind, and its kind
 abbrev pub is_kind : RecordKind → Record → Bool
-is_kind kind r = bytes_eq (field r 0) (word_of kind)
+is_kind kind = begins_with (word_of kind)
 
 abbrev pub kind_of : Record → Option RecordKind
 kind_of r = find (λ kind. is_kind kind r) kinds

@@ -1,10 +1,11 @@
 -- The certificate that sound records state for a case. A number without a record is 0.
-use Rattle.std.specs.Prelude.{ℕ, ◌-◌, List, [], length, map, ℤ, ◌&&◌, ◌==◌, if◌then◌else◌, Option, Some, None, Result, Ok, Err}
+use Rattle.std.specs.Prelude.{ℕ, ◌-◌, List, [], length, map, ℤ, ◌&&◌, ◌==◌, if◌then◌else◌, Result}
 use Rattle.std.specs.Option.{unwrap_or}
 use Rattle.std.specs.List.{find}
 use Rattle.core_sums.specs.Places.{below}
 use Rattle.core_rows.specs.Names.{Record, field}
 use Rattle.core_rows.specs.Fields.{records}
+use Rattle.core_rows.specs.FirstFault.{unless_faulty}
 use Rattle.core_book.specs.View.{CaseView}
 use Rattle.core_model.specs.declared.cert.Calendar.{Calendar}
 use Rattle.core_model.specs.declared.cert.Weights as weights
@@ -16,7 +17,7 @@ use Rattle.core_cert.specs.declared.kinds.RecordKind.{RecordKind}
 use Rattle.core_cert.specs.declared.kinds.RecordKind.TheVariants.{Closes, Amount, Loss, Weights, Scenario, Limit, Pool, Full}
 use Rattle.core_cert.specs.Codes.{code_of}
 use Rattle.core_cert.specs.Kinds.{is_kind}
-use Rattle.core_cert.specs.Faults.{Faulty, number_in, first_fault, is_refusing, place_in}
+use Rattle.core_cert.specs.Faults.{number_in, first_fault, is_refusing, place_in}
 
 -- the number that ends the first record of a kind at a place, 0 where there is none
 abbrev pub last_number : Record → ℤ
@@ -56,12 +57,8 @@ cert_of c rs =
     else certs_of.Closes (calendar_stated c rs) (number_at c rs Loss 0) (weights_stated c rs)
 
 -- The certificate of the records for a case, or the number of the first faulty one and the code of its fault.
-abbrev pub cert_unless : Option Faulty → certs.Cert → Result certs.Cert (ℕ × ℕ)
-cert_unless None cert = Ok cert
-cert_unless (Some faulty) cert = Err (faulty.0, code_of faulty.1)
-
 abbrev pub cert_of_records : CaseView → List Record → Result certs.Cert (ℕ × ℕ)
-cert_of_records c rs = cert_unless (first_fault c rs) (cert_of c rs)
+cert_of_records c rs = unless_faulty code_of (first_fault c rs) (cert_of c rs)
 
 -- the certificate of the bytes
 unfoldable pub cert_of_bytes : CaseView → List ℕ → Result certs.Cert (ℕ × ℕ)

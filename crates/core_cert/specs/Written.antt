@@ -158,7 +158,3 @@ cert_records c cert = first_record c ∷ (inner_records c cert ++ ((codes "end" 
 -- the text of a certificate
 abbrev pub cert_text : CaseView → Cert → List ℕ
 cert_text c cert = rows_text (cert_records c cert)
-
--- the greatest size of a certificate's text, in bytes
-abbrev pub most_bytes : ℕ
-most_bytes = 4194304

@@ -68,7 +68,7 @@ fn numbered_lines<'a>(
     ensures { IfOk result (λ set. map key_words set.keys ≡ lines_words case.now) }
 {
     // No two lines of a case are of one instrument and one side.
-    let _kept = case.horizon();
+    case.well_formed();
     let mut lines = IndexSet::new(alloc);
     for l in 0..case.lines() {
         let line = case.line(l);
@@ -133,7 +133,7 @@ impl<'a> CaseNames<'a> {
         ensures { IfOk result (λ names. names ≡ case.now) }
     {
         // No two instruments, scenarios or pools of a case have one name.
-        let _kept = case.horizon();
+        case.well_formed();
         Ok(CaseNames {
             case,
             instruments: numbered(alloc, &lists.instruments)?,

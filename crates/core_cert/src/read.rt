@@ -1,10 +1,13 @@
 // Reading a certificate.
 ghost use Rattle.std.specs.Prelude.{◌≡◌, ◌≤◌, ◌<◌, ◌^◌, None, Ok, length, IfOk, IfErr};
 ghost use Rattle.core_model.specs.Fits.{Fits, IsPlainlyRefusing};
+ghost use Rattle.core_rows.specs.Fields.{most_bytes};
+ghost use Rattle.core_rows.specs.FirstFault.{missing_after};
 ghost use Rattle.core_cert.specs.Codes.{code_of};
-ghost use Rattle.core_cert.specs.Faults.{first_fault, missing_end};
+ghost use Rattle.core_cert.specs.Faults.{first_fault, has_ended};
 ghost use Rattle.core_cert.specs.Refusals.{IsFault, RefusesBytes, RefusesRecords};
 ghost use Rattle.core_cert.specs.Stated.{cert_of_bytes, cert_of_records};
+ghost use Rattle.core_cert.specs.declared.faults.RecordFault.TheVariants.{EndMissing, FirstNotCert};
 ghost use Rattle.core_cert.specs.declared.read.CertFault.TheVariants.{Bad};
 
 use crate::faults::RecordFault;
@@ -15,7 +18,7 @@ use crate::state::state_cert;
 use crate::steps::{ends_with, record_fault};
 use core_book::Case;
 use core_model::Cert;
-use core_rows::{Fields, records};
+use core_rows::{Fields, missing_after, records};
 use std::alloc::{AllocError, Global};
 
 /// Why no certificate was read.
@@ -52,15 +55,20 @@ fn bad(row: usize, fault: RecordFault) -> CertFault
 /// The answer where the records have no end.
 fn ended(rows: &[Fields]) -> Result<(), CertFault>
     requires { length rows.now < 2 ^ 31 }
-    ensures ended { IfOk result (λ _. missing_end rows.now ≡ None) }
-    ensures fault { IfErr result (λ fault. IsFault fault (missing_end rows.now)) }
+    ensures ended { IfOk result (λ _.
+        missing_after (length rows.now) (has_ended rows.now) FirstNotCert EndMissing ≡ None) }
+    ensures fault { IfErr result (λ fault.
+        IsFault fault (missing_after (length rows.now) (has_ended rows.now) FirstNotCert EndMissing)) }
 {
-    if rows.is_empty() {
-        Err(bad(1, RecordFault::FirstNotCert))
-    } else if ends_with(rows, RecordKind::End) {
-        Ok(())
-    } else {
-        Err(bad(rows.len() + 1, RecordFault::EndMissing))
+    let has_ended = ends_with(rows, RecordKind::End);
+    match missing_after(
+        rows.len(),
+        has_ended,
+        RecordFault::FirstNotCert,
+        RecordFault::EndMissing,
+    ) {
+        Some((row, fault)) => Err(bad(row, fault)),
+        None => Ok(()),
     }
 }
 
@@ -107,7 +115,7 @@ fn cert_for(alloc: Global, case: &Case, rows: &[Fields]) -> Result<Cert, CertFau
 /// number of the first such record and the code of its first fault; a text that does not end with `end` has its fault
 /// after its last record. Reading takes time linear in the text, up to logarithms.
 pub fn read_cert(alloc: Global, case: &Case, bytes: &[u8]) -> Result<Cert, CertFault>
-    requires { length bytes.now ≤ 4194304 }
+    requires { length bytes.now ≤ most_bytes }
     ensures accepted { IfOk result (λ cert. cert_of_bytes case.now bytes.now ≡ Ok cert) }
     ensures fits { IfOk result (λ cert. Fits case.now cert) }
     ensures plain { IfOk result IsPlainlyRefusing }

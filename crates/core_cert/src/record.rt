@@ -98,7 +98,7 @@ fn line_record(alloc: Global, case: &Case, word: &[u8], l: usize) -> Result<Fiel
     ensures plain { IfOk result IsPlainRow }
 {
     // Every case keeps that its lines are of instruments that it has.
-    let _kept = case.horizon();
+    case.well_formed();
     let line = case.line(l);
     let instrument = case.instrument(line.instrument);
     let mut fields = Fields::make(alloc);

@@ -4,7 +4,8 @@ ghost use Rattle.core_rows.specs.Written.{rows_text};
 ghost use Rattle.core_model.specs.Fits.{CalendarFits, Fits, IsWithin128, WeightsFit, IsPlainlyRefusing};
 ghost use Rattle.core_model.specs.Closing.{IsClosingDay};
 ghost use Rattle.core_model.specs.Layout.{plan_of};
-ghost use Rattle.core_cert.specs.Written.{amount_records, cert_text, closing_records, constraint_records, day_amounts, day_limits, full_records, instrument_limits, limit_records, line_amounts, most_bytes, pool_days, pool_records, refusing_records, scenario_days, scenario_records};
+ghost use Rattle.core_rows.specs.Fields.{most_bytes};
+ghost use Rattle.core_cert.specs.Written.{amount_records, cert_text, closing_records, constraint_records, day_amounts, day_limits, full_records, instrument_limits, limit_records, line_amounts, pool_days, pool_records, refusing_records, scenario_days, scenario_records};
 
 use crate::record::{put_amount, put_day, put_first, put_full, put_limit, put_number, put_word};
 use core_book::Case;
@@ -284,7 +285,7 @@ pub fn write_cert(alloc: Global, case: &Case, cert: &Cert) -> Result<Vec<u8>, Al
     ensures size { IfOk result (λ text. length text.items ≤ most_bytes) }
 {
     // Every case keeps the bounds that the size of the text stands on.
-    let _kept = case.horizon();
+    case.well_formed();
     let mut out = Vec::new(alloc);
     put_first(alloc, &mut out, case)?;
     match cert {

@@ -29,4 +29,4 @@ pub returns-clause-text : goal.returns-clause-text
 returns-clause-text c = text_is c
 
 pub returns-clause-size : goal.returns-clause-size
-returns-clause-size c = rw (text_is c) (cert_text-short c.args.case.now c.args.cert.now c.horizon-kept.ensures.kept c.requires.fits)
+returns-clause-size c = rw (text_is c) (cert_text-short c.args.case.now c.args.cert.now c.well_formed-2.ensures c.requires.fits)
