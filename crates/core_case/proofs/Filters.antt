@@ -8,15 +8,15 @@ use Rattle.std.specs.Option.{unwrap_or, option_or}
 use Rattle.std.specs.List.{All, AllPairs, find, position_or_len}
 
 -- an element that passes stands at a place of the filtered list
-abbrev pub KeptAt : {A : Type 0} → (A → Bool) → List A → ℕ → A → Type 0
-KeptAt p xs i d = (k : ℕ) × (k < length (filter p xs)) × (get_or (filter p xs) k d ≡ get_or xs i d)
+abbrev pub PassesAt : {A : Type 0} → (A → Bool) → List A → ℕ → A → Type 0
+PassesAt p xs i d = (k : ℕ) × (k < length (filter p xs)) × (get_or (filter p xs) k d ≡ get_or xs i d)
 
-pub kept-at : {A : Type 0} (p : A → Bool) (xs : List A) (i : ℕ) (d : A) → i < length xs → p (get_or xs i d) ≡ true → KeptAt p xs i d
-kept-at p [] i d within pass = absurd (omega (arith, within))
-kept-at {A} p (x ∷ xs) zero d within pass = subst (λ b. (k : ℕ) × (k < length (cond b (x ∷ filter p xs) (filter p xs))) × (get_or (cond b (x ∷ filter p xs) (filter p xs)) k d ≡ x)) (sym pass) (zero, omega arith, refl)
-kept-at {A} p (x ∷ xs) (suc i) d within pass = by (p x) (kept-at p xs i d (omega (arith, within)) pass)
+pub passes-at : {A : Type 0} (p : A → Bool) (xs : List A) (i : ℕ) (d : A) → i < length xs → p (get_or xs i d) ≡ true → PassesAt p xs i d
+passes-at p [] i d within pass = absurd (omega (arith, within))
+passes-at {A} p (x ∷ xs) zero d within pass = subst (λ b. (k : ℕ) × (k < length (cond b (x ∷ filter p xs) (filter p xs))) × (get_or (cond b (x ∷ filter p xs) (filter p xs)) k d ≡ x)) (sym pass) (zero, omega arith, refl)
+passes-at {A} p (x ∷ xs) (suc i) d within pass = by (p x) (passes-at p xs i d (omega (arith, within)) pass)
   where
-    by : (b : Bool) → KeptAt p xs i d → (k : ℕ) × (k < length (cond b (x ∷ filter p xs) (filter p xs))) × (get_or (cond b (x ∷ filter p xs) (filter p xs)) k d ≡ get_or xs i d)
+    by : (b : Bool) → PassesAt p xs i d → (k : ℕ) × (k < length (cond b (x ∷ filter p xs) (filter p xs))) × (get_or (cond b (x ∷ filter p xs) (filter p xs)) k d ≡ get_or xs i d)
     by true rest = (suc rest.0, omega (arith, rest.1), rest.2)
     by false rest = rest
 
@@ -173,7 +173,7 @@ position-below {A} q (x ∷ xs) k d within pass = by (q x) refl k within pass (�
 pub position-kept : {A B : Type 0} (p : A → Bool) (f : A → B) (q : B → Bool) (xs : List A) (i : ℕ) (d : A)
     → i < length xs → p (get_or xs i d) ≡ true → q (f (get_or xs i d)) ≡ true → position_or_len q (map f (filter p xs)) < length (map f (filter p xs))
 position-kept p f q xs i d within pass here =
-    let kept = kept-at p xs i d within pass in
+    let kept = passes-at p xs i d within pass in
     let below : kept.0 < length (filter p xs) = kept.1 in
     let long : length (map f (filter p xs)) ≡ length (filter p xs) = length-map (filter p xs) f in
     position-below q (map f (filter p xs)) kept.0 (f d) (omega (arith, below, long))

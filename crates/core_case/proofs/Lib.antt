@@ -4,9 +4,7 @@ mod FiledMore
 mod FiledRows
 mod Filters
 mod FormsDates
-mod LinesKept
 mod NamesDeclared
-mod NamesKept
 mod NamesSound
 mod ReadingCase
 mod ReadingFaults
@@ -16,8 +14,10 @@ mod SoundRecord
 mod StateNames
 mod StateRows
 mod StateWhole
-pub mod StatedCases
 mod WholeDays
+mod WholeLines
 mod WholeLists
+mod WholeNames
 mod WholeOfSound
 mod WholeRecords
+pub mod StatedCases

@@ -1,82 +1,53 @@
--- The records of a case are read one by one.
-use Rattle.std.proofs.Common.{◌≡◌, sym, ◌∙◌, refl, ap, subst, ℕ, suc, ◌+◌, ◌<◌, ◌≤◌, List, [], ◌∷◌, ◌++◌, length, get_or, take, drop, arith, false, Option, Some, None}
-use Rattle.std.proofs.lemmas.List.{take_more, take_all, drop_all, length-take-le}
+-- The records of a case are read one by one: the register has those before a place, which are sound.
+use Rattle.std.proofs.Common.{◌≡◌, sym, ◌∙◌, refl, ap, subst, ℕ, ◌+◌, ◌<◌, ◌≤◌, List, [], ◌∷◌, ◌++◌, length, get_or, take, arith, Option, Some, None}
+use Rattle.std.proofs.lemmas.List.{take_all, length-take-le}
 use Rattle.core_rows.specs.Names.{Record}
-use Rattle.core_rows.proofs.OneByOne.{left-is}
+use Rattle.core_rows.specs.FirstFault.{Faulty, missing_end}
+use Rattle.core_rows.proofs.FirstFault.{IsSoundTo, row-faulty, row-sound, rows-end, sound-first, take-next}
 use Rattle.core_case.specs.Codes.{code_of}
-use Rattle.core_case.specs.Faults.{Faulty, fault_of, first_fault, first_fault_after, has_ended, missing_end}
+use Rattle.core_case.specs.Faults.{fault_of, first_fault, judge}
 use Rattle.core_case.specs.Refusals.{IsFault}
 use Rattle.core_case.specs.declared.faults.RecordFault.{RecordFault}
-use Rattle.core_case.specs.declared.faults.RecordFault.TheVariants.{EndMissing}
 use Rattle.core_case.specs.declared.read.CaseFault.{CaseFault}
 use Rattle.core_case.specs.declared.read.CaseFault.TheVariants.{Bad}
 
--- a faulty record is the first
-faulty-first : (earlier rs : List Record) (r : Record) (fault : RecordFault) → fault_of earlier r ≡ Some fault
-    → first_fault_after earlier (r ∷ rs) ≡ Some (suc (length earlier), fault)
-unfolding first_fault_after
-faulty-first earlier rs r fault e =
-    ap (λ (o : Option RecordFault). elim o as (λ _. Option Faulty) [ Some fault ↦ Some (suc (length earlier), fault) | None ↦ first_fault_after (earlier ++ (r ∷ [])) rs ]) e
+-- the register has the records up to a place, all of them sound
+pub record IsReadTo (rows register : List Record) (i : ℕ) : Type 0 where
+  pub are : register ≡ take i rows
+  pub sound : IsSoundTo judge rows i
 
--- a sound record is let past
-sound-past : (earlier rs : List Record) (r : Record) → fault_of earlier r ≡ None
-    → first_fault_after earlier (r ∷ rs) ≡ first_fault_after (earlier ++ (r ∷ [])) rs
-unfolding first_fault_after
-sound-past earlier rs r e =
-    ap (λ (o : Option RecordFault). elim o as (λ _. Option Faulty) [ Some fault ↦ Some (suc (length earlier), fault) | None ↦ first_fault_after (earlier ++ (r ∷ [])) rs ]) e
+pub read-none : (rows register : List Record) → register ≡ [] → IsReadTo rows register 0
+read-none rows register none = record { are = none; sound = sound-first judge rows }
 
--- past the last record only the end is asked for
-none-left : (earlier : List Record) → first_fault_after earlier [] ≡ missing_end earlier
-unfolding first_fault_after
-none-left earlier = refl
+-- the record at hand is judged by those before it
+judged : (rows register : List Record) (i : ℕ) (row : Record) (o : Option RecordFault) → IsReadTo rows register i → fault_of register row ≡ o → fault_of (take i rows) row ≡ o
+judged rows register i row o read here = ap (λ rs. fault_of rs row) (sym read.are) ∙ here
 
--- a faulty record at hand is the first of all
-pub row-faulty : (rows register : List Record) (i : ℕ) (row : Record) (fault : RecordFault) → i < length rows → row ≡ get_or rows i row
-    → first_fault rows ≡ first_fault_after register (drop i rows) → fault_of register row ≡ Some fault
-    → first_fault rows ≡ Some (suc (length register), fault)
-row-faulty rows register i row fault within at so_far here =
-    so_far ∙ ap (first_fault_after register) (left-is rows i row within at) ∙ faulty-first register (drop (i + 1) rows) row fault here
-
--- a sound record at hand is one more of those that were read
-pub row-sound : (rows register more : List Record) (i : ℕ) (row : Record) → i < length rows → row ≡ get_or rows i row
-    → first_fault rows ≡ first_fault_after register (drop i rows) → fault_of register row ≡ None → more ≡ register ++ (row ∷ [])
-    → first_fault rows ≡ first_fault_after more (drop (i + 1) rows)
-row-sound rows register more i row within at so_far here grown =
-    so_far ∙ ap (first_fault_after register) (left-is rows i row within at) ∙ sound-past register (drop (i + 1) rows) row here
-    ∙ ap (λ rs. first_fault_after rs (drop (i + 1) rows)) (sym grown)
-
--- and the register has the records up to it
-pub rows-more : (rows register more : List Record) (i : ℕ) (row : Record) → i < length rows → row ≡ get_or rows i row
-    → register ≡ take i rows → more ≡ register ++ (row ∷ []) → more ≡ take (i + 1) rows
-rows-more rows register more i row within at so_far grown =
-    grown ∙ ap (λ rs. rs ++ (row ∷ [])) so_far ∙ ap (λ r. take i rows ++ (r ∷ [])) at ∙ sym (take_more rows i row within)
+-- a sound record at hand is one more
+pub read-more : (rows register more : List Record) (i : ℕ) (row : Record) → i < length rows → row ≡ get_or rows i row → IsReadTo rows register i
+    → fault_of register row ≡ None → more ≡ register ++ (row ∷ []) → IsReadTo rows more (i + 1)
+read-more rows register more i row within at read here grown = record {
+  are = grown ∙ ap (λ rs. rs ++ (row ∷ [])) read.are ∙ take-next rows i row within at;
+  sound = row-sound judge rows i row within at read.sound (judged rows register i row None read here);
+}
 
 -- how many were read
-pub rows-count : (rows register : List Record) (i : ℕ) → i < length rows → register ≡ take i rows → length register < length rows
-rows-count rows register i within so_far =
-    let size : length (take i rows) ≡ i = length-take-le i rows (omega (arith, within)) in
-    omega (arith, ap length so_far, size, within)
+pub rows-count : (rows register : List Record) (i : ℕ) → i < length rows → IsReadTo rows register i → length register ≡ i
+rows-count rows register i within read = ap length read.are ∙ length-take-le i rows (omega (arith, within))
 
--- at the end all were read
-pub rows-all : (rows register : List Record) (i : ℕ) → length rows ≤ i → register ≡ take i rows → register ≡ rows
-rows-all rows register i past so_far = so_far ∙ take_all i rows past
-
--- and the first fault is that of a missing end
-pub rows-end : (rows register : List Record) (i : ℕ) → length rows ≤ i → register ≡ take i rows
-    → first_fault rows ≡ first_fault_after register (drop i rows) → first_fault rows ≡ missing_end rows
-rows-end rows register i past so_far fault =
-    fault ∙ ap (first_fault_after register) (drop_all i rows past) ∙ none-left register ∙ ap missing_end (rows-all rows register i past so_far)
+-- at the end all were read, and the first fault is that of a missing end
+pub rows-all : (rows register : List Record) (i : ℕ) → length rows ≤ i → IsReadTo rows register i → (register ≡ rows) × (first_fault rows ≡ missing_end judge rows)
+rows-all rows register i past read = (read.are ∙ take_all i rows past, rows-end judge rows i past read.sound)
 
 -- the answer names the faulty record and the code of its fault
-pub bad-is : (answer : CaseFault) (faulty : Option Faulty) (register : List Record) (count : ℕ) (fault : RecordFault) → answer ≡ Bad (count + 1) (code_of fault)
-    → count ≡ length register → faulty ≡ Some (suc (length register), fault) → IsFault answer faulty
-bad-is answer faulty register count fault is size first =
-    let number : suc (length register) ≡ count + 1 = omega arith in
-    let here : faulty ≡ Some (count + 1, fault) = first ∙ ap (λ n. Some (n, fault)) number in
-    subst (λ (x : CaseFault). IsFault x faulty) (sym is) (fault, here, refl)
+pub bad-is : (answer : CaseFault) (faulty : Option (Faulty RecordFault)) (number : ℕ) (fault : RecordFault) → answer ≡ Bad number (code_of fault)
+    → faulty ≡ Some (number, fault) → IsFault answer faulty
+bad-is answer faulty number fault is first = subst (λ (x : CaseFault). IsFault x faulty) (sym is) (fault, first, refl)
 
--- records that do not end have their fault after the last
-pub end-missing : (register : List Record) (count : ℕ) → count ≡ length register → (count ≡ 0 → ⊥) → false ≡ has_ended register
-    → missing_end register ≡ Some (suc (length register), EndMissing)
-end-missing [] count is some still = absurd (some is)
-end-missing (r ∷ rs) count is some still = rw (← still) refl
+-- a faulty record at hand is the first of all
+pub bad-row : (answer : CaseFault) (rows register : List Record) (i count : ℕ) (row : Record) (fault : RecordFault) → i < length rows → row ≡ get_or rows i row
+    → IsReadTo rows register i → fault_of register row ≡ Some fault → count ≡ length register → answer ≡ Bad (count + 1) (code_of fault) → IsFault answer (first_fault rows)
+bad-row answer rows register i count row fault within at read here size is =
+    bad-is answer (first_fault rows) (count + 1) fault is
+    (row-faulty judge rows i row fault within at read.sound (judged rows register i row (Some fault) read here)
+    ∙ ap (λ n. Some (n + 1, fault)) (sym (size ∙ rows-count rows register i within read)))

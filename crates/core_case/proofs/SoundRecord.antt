@@ -9,9 +9,11 @@ use Rattle.core_case.specs.declared.kinds.RecordKind.TheVariants.{Core}
 use Rattle.core_case.specs.declared.forms.Form.{Form}
 use Rattle.core_case.specs.declared.forms.Form.TheVariants.{Version}
 use Rattle.core_case.specs.declared.faults.RecordFault.{RecordFault}
-use Rattle.core_case.specs.declared.faults.RecordFault.TheVariants.{EndMissing}
+use Rattle.core_case.specs.declared.faults.RecordFault.TheVariants.{EndMissing, FirstNotCore}
 use Rattle.core_case.specs.Kinds.{is_kind, kind_of, forms, references}
-use Rattle.core_case.specs.Faults.{Faulty, fault_of, first_fault, first_fault_after, missing_end, end_before, kind_step, later_fault, own_fault, book_fault, form_fault, range_fault, heading_of, order_step, zero_step, name_step, security_step, repeats, has_room, end_step, has_ended}
+use Rattle.core_case.specs.Faults.{fault_of, first_fault, judge, end_before, kind_step, later_fault, own_fault, book_fault, form_fault, range_fault, heading_of, order_step, zero_step, name_step, security_step, repeats, has_room, end_step, has_ended}
+use Rattle.core_rows.specs.FirstFault.{missing_after}
+use Rattle.core_rows.proofs.FirstFault as walk
 use Rattle.core_rows.specs.Steps.{first_of}
 use Rattle.core_rows.proofs.FirstStep.{holds-from_none, fails-from_none, neither, first_of-parts}
 use Rattle.core_rows.proofs.FieldWalk.{field-at}
@@ -138,97 +140,29 @@ sound-record earlier r e = split (kind_of (heading_of earlier).version r) refl
     split (Some kind) is =
         (kind, of-kind-sound earlier r kind is (fails-from_none _ _ going.0) (subst (λ (o : Option RecordKind). later_fault earlier r o ≡ None) is later))
 
--- where a record and those after it have no first fault, it has no fault, and no more have those after it
-none-here : (o : Option RecordFault) (n : ℕ) (later : Option Faulty) → ◌≡◌ {A = Option Faulty} (elim o [ Some fault ↦ Some (suc n, fault) | None ↦ later ]) None
-    → (o ≡ None) × (later ≡ None)
-none-here None n later e = (refl, e)
-none-here (Some fault) n later e = absurd (cc)
-
--- the record that comes next has no fault, and no more have those after it
-next-sound : (earlier : List Record) (r : Record) (rs : List Record) → first_fault_after earlier (r ∷ rs) ≡ None
-    → (fault_of earlier r ≡ None) × (first_fault_after (earlier ++ (r ∷ [])) rs ≡ None)
-unfolding first_fault_after
-next-sound earlier r rs e = none-here (fault_of earlier r) (length earlier) (first_fault_after (earlier ++ (r ∷ [])) rs) e
-
--- the record at a place, among records that came before and those after
-sound-after : (earlier rs : List Record) → first_fault_after earlier rs ≡ None → (i : ℕ) → length earlier ≤ i → i < length (earlier ++ rs)
-    → (kind : RecordKind) × SoundRecord (take i (earlier ++ rs)) (row_at (earlier ++ rs) i) kind
-sound-after earlier [] e i from within = absurd (omega (arith, from, within, ap length (append-nil earlier)))
-sound-after earlier (r ∷ rs) e i from within = split (sound-after (earlier ++ (r ∷ [])) rs (next-sound earlier r rs e).1 i) (cases_lt (length earlier) i)
-  where
-    parts : (fault_of earlier r ≡ None) × (first_fault_after (earlier ++ (r ∷ [])) rs ≡ None)
-    parts = next-sound earlier r rs e
-
-    joined : (earlier ++ (r ∷ [])) ++ rs ≡ earlier ++ (r ∷ rs)
-    joined = append_assoc earlier (r ∷ []) rs
-
-    split : (length (earlier ++ (r ∷ [])) ≤ i → i < length ((earlier ++ (r ∷ [])) ++ rs)
-        → (kind : RecordKind) × SoundRecord (take i ((earlier ++ (r ∷ [])) ++ rs)) (row_at ((earlier ++ (r ∷ [])) ++ rs) i) kind)
-        → (length earlier < i) ⊎ (i ≤ length earlier) → (kind : RecordKind) × SoundRecord (take i (earlier ++ (r ∷ rs))) (row_at (earlier ++ (r ∷ rs)) i) kind
-    split rest (inl less) =
-        subst (λ (all : List Record). (kind : RecordKind) × SoundRecord (take i all) (row_at all i) kind) joined
-        (rest (omega (arith, less, length-append earlier (r ∷ []))) (omega (arith, within, ap length joined)))
-    split rest (inr more) =
-        let here : length earlier ≡ i = omega (arith, from, more) in
-        let before : take i (earlier ++ (r ∷ rs)) ≡ earlier = take_at earlier (r ∷ rs) i here in
-        let this : row_at (earlier ++ (r ∷ rs)) i ≡ r = get_or_at earlier r rs [] i here in
-        let sound = sound-record earlier r parts.0 in (
-          sound.0,
-          subst (λ (x : Record). SoundRecord (take i (earlier ++ (r ∷ rs))) x sound.0) (sym this)
-              (subst (λ (xs : List Record). SoundRecord xs r sound.0) (sym before) sound.1),
-        )
-
 -- before a first fault each record is sound among those before it
 pub sound-at : (rs : List Record) → first_fault rs ≡ None → (i : ℕ) → i < length rs → (kind : RecordKind) × SoundRecord (take i rs) (row_at rs i) kind
-sound-at rs e i within = sound-after [] rs e i (omega arith) within
+sound-at rs e i within = sound-record (take i rs) (row_at rs i) (walk.sound-at judge rs e i within)
 
--- what holds of no records, and of one more sound record after those of which it holds, holds of all
-one-more-after : (P : List Record → Type 0) → ((earlier : List Record) (r : Record) (kind : RecordKind) → P earlier → SoundRecord earlier r kind → P (earlier ++ (r ∷ [])))
-    → (earlier rs : List Record) → P earlier → first_fault_after earlier rs ≡ None → P (earlier ++ rs)
-one-more-after P more earlier [] so_far e = subst P (sym (append-nil earlier)) so_far
-one-more-after P more earlier (r ∷ rs) so_far e =
-    let parts = next-sound earlier r rs e in
-    let sound = sound-record earlier r parts.0 in
-    subst P (append_assoc earlier (r ∷ []) rs)
-    (one-more-after P more (earlier ++ (r ∷ [])) rs (more earlier r sound.0 so_far sound.1) parts.1)
-
--- so it holds of a sound file, where it holds of no records
+-- what holds of no records, and of one more sound record after those of which it holds, holds of a sound file
 pub by-one-more : (P : List Record → Type 0) → P [] → ((earlier : List Record) (r : Record) (kind : RecordKind) → P earlier → SoundRecord earlier r kind → P (earlier ++ (r ∷ [])))
     → (rs : List Record) → first_fault rs ≡ None → P rs
-by-one-more P none more rs e = one-more-after P more [] rs none e
+by-one-more P none more rs e =
+    walk.by-one-more judge rs e P none (λ earlier r so_far here. let sound = sound-record earlier r here in more earlier r sound.0 so_far sound.1)
 
--- a choice between none and a fault that gives none
-chosen-none : (b : Bool) (faulty : Faulty) → cond b None (Some faulty) ≡ None → b ≡ true
-chosen-none true faulty e = refl
-chosen-none false faulty e = absurd (cc)
-
--- where no `end` is missed, it is there
-end-is-there : (rs : List Record) → missing_end rs ≡ None → has_ended rs ≡ true
-end-is-there [] e = absurd (cc)
-end-is-there (r ∷ rs) e = chosen-none (has_ended (r ∷ rs)) (suc (length (r ∷ rs)), EndMissing) e
-
--- so it is there among records that came before and those after
-ended-after : (earlier rs : List Record) → first_fault_after earlier rs ≡ None → has_ended (earlier ++ rs) ≡ true
-unfolding first_fault_after
-ended-after earlier [] e = subst (λ (xs : List Record). has_ended xs ≡ true) (sym (append-nil earlier)) (end-is-there earlier e)
-ended-after earlier (r ∷ rs) e =
-    subst (λ (xs : List Record). has_ended xs ≡ true) (append_assoc earlier (r ∷ []) rs)
-    (ended-after (earlier ++ (r ∷ [])) rs (next-sound earlier r rs e).1)
+-- what is missing where nothing is
+none-missed : (n : ℕ) (has : Bool) → missing_after n has FirstNotCore EndMissing ≡ None → (0 < n) × (has ≡ true)
+none-missed zero has e = absurd (cc)
+none-missed (suc n) true e = (omega arith, refl)
+none-missed (suc n) false e = absurd (cc)
 
 -- so `end` is among the records of a sound file
 pub ended : (rs : List Record) → first_fault rs ≡ None → has_ended rs ≡ true
-ended rs e = ended-after [] rs e
+ended rs e = (none-missed (length rs) (has_ended rs) (walk.none-missing judge rs e)).1
 
--- the first record is `core`
-first-is-core : (rs : List Record) → first_fault_after [] rs ≡ None → is_kind Core (row_at rs 0) ≡ true
-unfolding first_fault_after
-first-is-core [] e = absurd (cc)
-first-is-core (r ∷ rs) e =
-    let sound : fault_of [] r ≡ None = (next-sound [] r rs e).0 in
-    let going = first_of-parts _ _ sound in
-    let known = first_of-parts _ _ going.1 in
-    holds-from_none _ _ known.0
-
--- so the first record of a sound file is `core`
+-- and the first of them is `core`
 pub first-core : (rs : List Record) → first_fault rs ≡ None → is_kind Core (row_at rs 0) ≡ true
-first-core rs e = first-is-core rs e
+first-core rs e =
+    let none : fault_of [] (row_at rs 0) ≡ None =
+    walk.sound-at judge rs e 0 (none-missed (length rs) (has_ended rs) (walk.none-missing judge rs e)).0 in
+    holds-from_none _ _ (first_of-parts _ _ (first_of-parts _ _ none).1).0

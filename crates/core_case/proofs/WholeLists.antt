@@ -19,7 +19,7 @@ use Rattle.core_case.specs.Kinds.{is_kind, number_in, cost_form}
 use Rattle.core_book.specs.WellFormed.{IsIn, IsTier, AreTiers, AreIn, ArePaths}
 use Rattle.core_case.specs.Faults.{first_fault, form_fault, range_fault, heading_of, of_kind, is_filed, filed, has_limit, has_path, is_complete}
 use Rattle.core_case.specs.Stated.{case_of, declared_names, instrument_of_record, numbers_from, limits_of, first_tier, tier_of_record, tiers_among, depth_of, prices_of}
-use Rattle.core_case.proofs.Filters.{All-filter_at, kept-at, stood-at, found-at, find-take}
+use Rattle.core_case.proofs.Filters.{All-filter_at, passes-at, stood-at, found-at, find-take}
 use Rattle.core_case.proofs.WholeRecords.{EndsAt, ends-at, before-end, in-form, named-kept, number-between}
 
 -- the numbers of a record whose forms end with so many numbers of a range
@@ -65,7 +65,7 @@ among-front : {A : Type 0} (p test : A → Bool) (xs : List A) (front i : ℕ) (
 among-front p test xs front i d within less pass all =
     let here : get_or (take front xs) i d ≡ get_or xs i d = get_or-take front xs i d less in
     let inside : i < length (take front xs) = omega (arith, less, length-take-le front xs within) in
-    let kept = kept-at p (take front xs) i d inside (ap p here ∙ pass) in
+    let kept = passes-at p (take front xs) i d inside (ap p here ∙ pass) in
     let sound : test (get_or (filter p (take front xs)) kept.0 d) ≡ true = AllPass-from_list_all test (filter p (take front xs)) all kept.0 d kept.1 in
     ap test (sym (kept.2 ∙ here)) ∙ sound
 
@@ -99,7 +99,7 @@ some-scenario rs e =
     let stood = stood-at (is_kind Scenario) (take place rs) 0 [] (complete-at rs place end.1).some in
     let less : stood.0 < place = let inside = stood.1 in omega (arith, inside, length-take-le place rs front) in
     let pass : is_kind Scenario (row_at rs stood.0) ≡ true = ap (is_kind Scenario) (sym (get_or-take place rs stood.0 [] less)) ∙ stood.2 in
-    let kept = kept-at (is_kind Scenario) rs stood.0 [] (omega (arith, less, front)) pass in
+    let kept = passes-at (is_kind Scenario) rs stood.0 [] (omega (arith, less, front)) pass in
     let below = kept.1 in
     let names : length (declared_names Scenario rs) ≡ length (of_kind Scenario rs) = length-map (of_kind Scenario rs) (λ r. field r 1) in
     omega (arith, below, names)

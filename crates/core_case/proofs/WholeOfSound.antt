@@ -7,8 +7,8 @@ use Rattle.core_case.specs.Stated.{case_of}
 use Rattle.core_case.specs.Whole.{IsWhole}
 use Rattle.core_case.proofs.WholeDays.{start-kept, horizon-kept, last-kept, holidays-kept, cash-kept}
 use Rattle.core_case.proofs.WholeLists.{some-scenario, depth-kept, prices-kept}
-use Rattle.core_case.proofs.NamesKept.{instruments-kept, markets-kept, pools-kept, members-kept, few-scenarios, scenario-names, scenarios-differ, market-names-differ}
-use Rattle.core_case.proofs.LinesKept.{lines-kept}
+use Rattle.core_case.proofs.WholeNames.{instruments-kept, markets-kept, pools-kept, members-kept, few-scenarios, scenario-names, scenarios-differ, market-names-differ}
+use Rattle.core_case.proofs.WholeLines.{lines-kept}
 
 -- the case that sound records state
 case-of-sound : (rs : List Record) → first_fault rs ≡ None → IsCase (case_of rs)

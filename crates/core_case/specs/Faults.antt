@@ -7,6 +7,8 @@ use Rattle.std.specs.List.{list_all, find}
 use Rattle.std.specs.Str.{bytes_eq}
 use Rattle.core_sums.specs.Places.{row_at}
 use Rattle.core_rows.specs.Names.{Record, field}
+use Rattle.core_rows.specs.FirstFault.{Faulty, Judge}
+use Rattle.core_rows.specs.FirstFault as FirstFault
 use Rattle.core_rows.specs.Steps.{fault_unless, fields_fault, first_of}
 use Rattle.core_rows.specs.Fields.{whole, name_of, day_of}
 use Rattle.core_case.specs.declared.kinds.RecordKind.{RecordKind}
@@ -234,19 +236,9 @@ fault_of earlier r =
     ∷ later_fault earlier r (kind_of (heading_of earlier).version r)
     ∷ [])
 
--- A faulty record by its number, from 1, and its fault.
-abbrev pub Faulty : Type 0
-Faulty = ℕ × RecordFault
+-- how a case is judged, record by record
+abbrev pub judge : Judge RecordFault
+judge = record { fault_of = fault_of; has_ended = has_ended; not_begun = FirstNotCore; not_ended = EndMissing }
 
--- the fault where no record is left: there is none after `end`
-abbrev pub missing_end : List Record → Option Faulty
-missing_end [] = Some (1, FirstNotCore)
-missing_end (r ∷ rs) = if has_ended (r ∷ rs) then None else Some (suc (length (r ∷ rs)), EndMissing)
-
--- the first fault of the records, where these came before
-unfoldable pub first_fault_after : List Record → List Record → Option Faulty
-first_fault_after earlier [] = missing_end earlier
-first_fault_after earlier (r ∷ rs) = elim (fault_of earlier r) [ Some fault ↦ Some (suc (length earlier), fault) | None ↦ first_fault_after (earlier ++ (r ∷ [])) rs ]
-
-abbrev pub first_fault : List Record → Option Faulty
-first_fault rs = first_fault_after [] rs
+abbrev pub first_fault : List Record → Option (Faulty RecordFault)
+first_fault rs = FirstFault.first_fault judge rs

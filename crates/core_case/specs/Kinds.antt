@@ -3,8 +3,7 @@
 use Rattle.std.specs.Prelude.{ℕ, suc, ◌-◌, ◌^◌, List, [], ◌∷◌, codes, replicate, ℤ, pos, negsuc, Bool, true, nat_le, ◌&&◌, if◌then◌else◌, Option, Some, None, unsigned_abs}
 use Rattle.std.specs.List.{find}
 use Rattle.std.specs.Option.{unwrap_or}
-use Rattle.std.specs.Str.{bytes_eq}
-use Rattle.core_rows.specs.Names.{Record, field}
+use Rattle.core_rows.specs.Names.{Record, begins_with, field}
 use Rattle.core_rows.specs.Fields.{whole}
 use Rattle.core_case.specs.declared.kinds.RecordKind.{RecordKind}
 use Rattle.core_case.specs.declared.kinds.RecordKind.TheVariants.{Core, House, Market, Holiday, Instrument, Limit, Tier, Pool, Member, Scenario, Path, Position, Collateral, Cash, End}
@@ -37,7 +36,7 @@ kinds =
 
 -- whether a record is of a kind
 abbrev pub is_kind : RecordKind → Record → Bool
-is_kind kind r = bytes_eq (field r 0) (word_of kind)
+is_kind kind r = begins_with (word_of kind) r
 
 -- whether a version of the format has a kind: tiers come with version 3
 abbrev pub has_kind : ℕ → RecordKind → Bool

@@ -1,5 +1,5 @@
 -- The case that sound records state.
-use Rattle.std.specs.Prelude.{ℕ, suc, List, [], ◌∷◌, map, filter, drop, ℤ, pos, negsuc, unsigned_abs, int_lt, ◌||◌, if◌then◌else◌, Option, Some, None, Result, Ok, Err}
+use Rattle.std.specs.Prelude.{ℕ, suc, List, [], ◌∷◌, map, filter, drop, ℤ, pos, negsuc, unsigned_abs, int_lt, ◌||◌, if◌then◌else◌, Option, Some, None, Result}
 use Rattle.std.specs.Option.{unwrap_or}
 use Rattle.std.specs.Ordering.{int_eq}
 use Rattle.std.specs.List.{find}
@@ -7,10 +7,11 @@ use Rattle.std.specs.Str.{bytes_eq}
 use Rattle.core_sums.specs.Places.{below, row_at}
 use Rattle.core_rows.specs.Names.{Record, field, place_of}
 use Rattle.core_rows.specs.Fields.{whole, day_of, records}
+use Rattle.core_rows.specs.FirstFault.{unless_faulty}
 use Rattle.core_case.specs.declared.kinds.RecordKind.{RecordKind}
 use Rattle.core_case.specs.declared.kinds.RecordKind.TheVariants.{Market, Holiday, Instrument, Limit, Tier, Pool, Member, Scenario, Path, Position, Collateral, Cash}
 use Rattle.core_case.specs.Kinds.{is_kind, number_in, natural_in}
-use Rattle.core_case.specs.Faults.{Faulty, of_kind, filed, heading_of, house_name, is_future, first_fault}
+use Rattle.core_case.specs.Faults.{of_kind, filed, heading_of, house_name, is_future, first_fault}
 use Rattle.core_case.specs.Codes.{code_of}
 use Rattle.core_book.specs.View.{CaseView, TierView}
 use Rattle.core_book.specs.declared.parts.Kind.TheVariants as kinds
@@ -137,12 +138,8 @@ case_of rs = record {
 }
 
 -- The case of the records, or the number of the first faulty one and the code of its fault.
-abbrev pub case_unless : Option Faulty → CaseView → Result CaseView (ℕ × ℕ)
-case_unless None c = Ok c
-case_unless (Some faulty) c = Err (faulty.0, code_of faulty.1)
-
 abbrev pub case_of_records : List Record → Result CaseView (ℕ × ℕ)
-case_of_records rs = case_unless (first_fault rs) (case_of rs)
+case_of_records rs = unless_faulty code_of (first_fault rs) (case_of rs)
 
 -- the case of the bytes
 unfoldable pub case_of_bytes : List ℕ → Result CaseView (ℕ × ℕ)

@@ -1,10 +1,11 @@
 // Reading a case.
 ghost use Rattle.std.specs.Prelude.{◌≡◌, ◌≤◌, ◌<◌, ◌^◌, true, None, Some, Ok, length, IsTrue, IfOk, IfErr};
-ghost use Rattle.core_rows.specs.Fields.{records};
+ghost use Rattle.core_rows.specs.Fields.{most_bytes, records};
+ghost use Rattle.core_rows.specs.FirstFault.{missing_end};
 ghost use Rattle.core_book.specs.WellFormed.{IsCase};
 ghost use Rattle.core_case.specs.Codes.{code_of};
 ghost use Rattle.core_case.specs.Kinds.{is_kind, kind_of};
-ghost use Rattle.core_case.specs.Faults.{fault_of, first_fault, heading_of, kind_step, missing_end, shape_fault};
+ghost use Rattle.core_case.specs.Faults.{fault_of, first_fault, heading_of, judge, kind_step, shape_fault};
 ghost use Rattle.core_case.specs.Refusals.{IsFault, RefusesBytes};
 ghost use Rattle.core_case.specs.declared.kinds.RecordKind.TheVariants.{Path};
 ghost use Rattle.core_case.specs.declared.read.CaseFault.TheVariants.{Bad};
@@ -17,7 +18,7 @@ use crate::register::Register;
 use crate::shape::own_fault;
 use crate::state::state_book;
 use core_book::Case;
-use core_rows::{Fields, records};
+use core_rows::{Fields, missing_after, records};
 use std::alloc::{AllocError, Global};
 
 /// Why no case was read.
@@ -97,7 +98,7 @@ fn bad(row: usize, fault: RecordFault) -> CaseFault
 fn read_rows(alloc: Global, rows: &[Fields]) -> Result<Register<'_>, CaseFault>
     requires { length rows.now < 2 ^ 31 }
     ensures sound { IfOk result (λ register.
-        (register ≡ rows.now) × (first_fault rows.now ≡ missing_end rows.now)) }
+        (register ≡ rows.now) × (first_fault rows.now ≡ missing_end judge rows.now)) }
     ensures fault { IfErr result (λ fault. IsFault fault (first_fault rows.now)) }
 {
     let mut register = Register::make(alloc);
@@ -114,15 +115,17 @@ fn read_rows(alloc: Global, rows: &[Fields]) -> Result<Register<'_>, CaseFault>
 /// The answer where the records have no end.
 fn ended(register: &Register) -> Result<(), CaseFault>
     requires { length register.now < 2 ^ 31 }
-    ensures ended { IfOk result (λ _. missing_end register.now ≡ None) }
-    ensures fault { IfErr result (λ fault. IsFault fault (missing_end register.now)) }
+    ensures ended { IfOk result (λ _. missing_end judge register.now ≡ None) }
+    ensures fault { IfErr result (λ fault. IsFault fault (missing_end judge register.now)) }
 {
-    if register.len() == 0 {
-        Err(bad(1, RecordFault::FirstNotCore))
-    } else if register.has_ended() {
-        Ok(())
-    } else {
-        Err(bad(register.len() + 1, RecordFault::EndMissing))
+    match missing_after(
+        register.len(),
+        register.has_ended(),
+        RecordFault::FirstNotCore,
+        RecordFault::EndMissing,
+    ) {
+        Some((row, fault)) => Err(bad(row, fault)),
+        None => Ok(()),
     }
 }
 
@@ -132,7 +135,7 @@ fn ended(register: &Register) -> Result<(), CaseFault>
 /// the first such record and the code of its first fault; a file that does not end with `end` has its fault after its
 /// last record. Reading takes time linear in the file, up to logarithms.
 pub fn read_case(alloc: Global, bytes: &[u8]) -> Result<Case, CaseFault>
-    requires { length bytes.now ≤ 4194304 }
+    requires { length bytes.now ≤ most_bytes }
     ensures accepted { IfOk result (λ c. case_of_bytes bytes.now ≡ Ok c) }
     ensures kept { IfOk result IsCase }
     ensures refused { IfErr result (λ fault. RefusesBytes fault bytes.now) }

@@ -34,13 +34,13 @@ pub(crate) struct Group<'a> {
 
 /// A record with its kind.
 #[derive(Clone, Copy)]
-pub(crate) struct Row<'a> {
+pub(crate) struct KnownRecord<'a> {
     pub(crate) kind: RecordKind,
     pub(crate) fields: &'a Fields,
     ghost of_kind: { is_kind kind fields.now ≡ true },
 }
 
-impl<'a> Row<'a> {
+impl<'a> KnownRecord<'a> {
     ghost use Rattle.std.specs.Prelude.{◌≡◌};
     ghost use Rattle.core_case.specs.Kinds.{is_kind};
 
@@ -79,7 +79,7 @@ impl<'a> Filed<'a> {
 /// The sound records that were read so far. Contracts see the list of these records.
 #[derive(Drop)]
 pub(crate) struct Register<'a> {
-    pub(crate) rows: Vec<Row<'a>>,
+    pub(crate) rows: Vec<KnownRecord<'a>>,
     pub(crate) filed: IndexMap<Key<'a>, Filed<'a>>,
     pub(crate) counts: IndexMap<Group<'a>, usize>,
     pub(crate) instruments: Vec<&'a Fields>,
@@ -137,7 +137,7 @@ fn group_of<'a>(kind: RecordKind, row: &'a Fields) -> Group<'a>
 }
 
 /// The number in a field of a record, 0 where there is no such record.
-fn natural_at(rows: &[Row], place: usize, field: usize) -> usize
+fn natural_at(rows: &[KnownRecord], place: usize, field: usize) -> usize
     ensures value { result ≡ natural_in (row_at (map (λ r. r.fields.now) rows.now) place) field }
     ensures bound { result < 2 ^ 63 }
 {
@@ -148,7 +148,7 @@ fn natural_at(rows: &[Row], place: usize, field: usize) -> usize
 }
 
 /// What the first two of these records state, 0 where there is none.
-fn heading_of(rows: &[Row]) -> Heading
+fn heading_of(rows: &[KnownRecord]) -> Heading
     ensures { heading_view result ≡ heading_of (map (λ r. r.fields.now) rows.now) }
 {
     Heading {
@@ -161,7 +161,7 @@ fn heading_of(rows: &[Row]) -> Heading
 /// The instruments with the last record, where it is one.
 fn with_instrument<'a>(
     mut instruments: Vec<&'a Fields>,
-    last: &Row<'a>,
+    last: &KnownRecord<'a>,
 ) -> Result<Vec<&'a Fields>, AllocError>
     ensures { IfOk result (λ v. map (λ r. r.now) v.items
         ≡ map (λ r. r.now) instruments.entry.items
@@ -174,7 +174,7 @@ fn with_instrument<'a>(
 }
 
 /// Whether `end` is the last record, or was there before it.
-fn ends(ended: bool, last: &Row) -> bool
+fn ends(ended: bool, last: &KnownRecord) -> bool
     ensures { result ≡ (ended || is_kind End last.now.fields.now) }
 {
     ended || last.is_of(RecordKind::End)
@@ -238,7 +238,7 @@ impl<'a> Register<'a> {
             mut heading,
             ended,
         } = self;
-        let last = Row { kind, fields: row };
+        let last = KnownRecord { kind, fields: row };
         rows.push(last)?;
         let instruments = with_instrument(instruments, &last)?;
         if rows.len() <= 2 {
@@ -266,7 +266,7 @@ impl<'a> Register<'a> {
     }
 
     /// The records, in order.
-    pub(crate) fn rows(&self) -> &[Row<'a>]
+    pub(crate) fn rows(&self) -> &[KnownRecord<'a>]
         ensures { map (λ r. r.fields.now) result.now ≡ self.now }
     {
         &self.rows

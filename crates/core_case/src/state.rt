@@ -13,7 +13,7 @@ ghost use Rattle.core_case.specs.Whole.{IsWhole};
 
 use crate::fields::{day_in, is_future, natural_in, number_in, numbers_from};
 use crate::kinds::{RecordKind, is_kind};
-use crate::register::{Register, Row};
+use crate::register::{KnownRecord, Register};
 use core_book::{Book, Instr, Kind, Line, Member, Pool, Side, Tier};
 use core_rows::{Fields, Name, name_of, same};
 use indexmap::IndexSet;
@@ -23,7 +23,7 @@ use std::alloc::{AllocError, Global};
 /// The records of a kind, in order.
 fn of_kind<'a>(
     alloc: Global,
-    rows: &[Row<'a>],
+    rows: &[KnownRecord<'a>],
     kind: RecordKind,
 ) -> Result<Vec<&'a Fields>, AllocError>
     ensures { IfOk result (λ v.
@@ -39,7 +39,7 @@ fn of_kind<'a>(
 }
 
 /// The records of positions and of collateral, in order.
-fn line_records<'a>(alloc: Global, rows: &[Row<'a>]) -> Result<Vec<&'a Fields>, AllocError>
+fn line_records<'a>(alloc: Global, rows: &[KnownRecord<'a>]) -> Result<Vec<&'a Fields>, AllocError>
     ensures { IfOk result (λ v.
         map (λ r. r.now) v.items ≡ line_records (map (λ r. r.fields.now) rows.now)) }
 {

@@ -4,6 +4,7 @@ use Rattle.std.specs.Fmt.{digits}
 use Rattle.std.proofs.lemmas.Bool.{leb-true}
 use Rattle.core_sums.specs.Places.{below, days_to, each}
 use Rattle.core_sums.proofs.Lists.{get_or-below}
+use Rattle.core_rows.specs.Fields.{most_bytes}
 use Rattle.core_gen.specs.Demo.{demo_text}
 
 -- two functions that agree on 0 to 32
@@ -16,11 +17,11 @@ up-to-32 f g same n high =
     ∙ get_or-below 33 n g (f n) under
 
 -- the sizes
-short : map (λ n. nat_le (length (demo_text n)) 4194304) (below 33) ≡ map (λ n. true) (below 33)
+short : map (λ n. nat_le (length (demo_text n)) most_bytes) (below 33) ≡ map (λ n. true) (below 33)
 unfolding below days_to each digits
 short = refl
 
-pub demo_text-short : (n : ℕ) → n ≤ 32 → length (demo_text n) ≤ 4194304
+pub demo_text-short : (n : ℕ) → n ≤ 32 → length (demo_text n) ≤ most_bytes
 demo_text-short n high =
-    leb-true (length (demo_text n)) 4194304
-    (up-to-32 (λ m. nat_le (length (demo_text m)) 4194304) (λ m. true) short n high)
+    leb-true (length (demo_text n)) most_bytes
+    (up-to-32 (λ m. nat_le (length (demo_text m)) most_bytes) (λ m. true) short n high)

@@ -11,7 +11,7 @@ use Rattle.core_rows.specs.Steps.{by_form, first_of}
 use Rattle.core_rows.specs.Written.{IsPlainField, IsPlainRow, is_plain_byte}
 use Rattle.core_rows.proofs.Plain.{word-plain}
 use Rattle.core_rows.proofs.ReadBack.{rows-read}
-use Rattle.core_case.specs.Faults.{first_fault_after}
+use Rattle.core_rows.specs.FirstFault.{first_fault_after}
 use Rattle.core_case.specs.Stated.{case_of_bytes, case_of_records}
 use Rattle.core_gen.specs.Demo.{demo_records}
 use Rattle.core_gen.specs.Closed.{demo_view}

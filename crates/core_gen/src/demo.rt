@@ -1,6 +1,7 @@
 // The text of a demo case.
 ghost use Rattle.std.specs.Prelude.{◌≡◌, ◌≤◌, ◌++◌, ◌∷◌, [], length, OnOk, IfOk};
 ghost use Rattle.core_sums.specs.Places.{days_to, each};
+ghost use Rattle.core_rows.specs.Fields.{most_bytes};
 ghost use Rattle.core_rows.specs.Written.{rows_text};
 ghost use Rattle.core_gen.specs.Demo.{demo_text, instrument_records, path_records, scenario_records};
 ghost use Rattle.core_gen.specs.Closed.{DemosClose};
@@ -54,7 +55,7 @@ pub fn demo_case(alloc: Global, n: u8) -> Result<Vec<u8>, AllocError>
     requires least { 1 ≤ n }
     requires most { n ≤ 32 }
     ensures text { IfOk result (λ text. text.items ≡ demo_text n) }
-    ensures size { IfOk result (λ text. length text.items ≤ 4194304) }
+    ensures size { IfOk result (λ text. length text.items ≤ most_bytes) }
 {
     let mut out = Vec::new(alloc);
     put_heading(alloc, &mut out)?;

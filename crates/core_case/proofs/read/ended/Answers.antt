@@ -1,9 +1,12 @@
-use Rattle.core_case.specs.Faults.{missing_end}
-use Rattle.core_case.specs.declared.faults.RecordFault.TheVariants.{EndMissing}
-use Rattle.core_case.proofs.ReadingRows.{bad-is, end-missing}
+use Rattle.std.proofs.Common.{◌≡◌, ◌∙◌, ap, length, sym, Some, None}
+use Rattle.core_rows.specs.FirstFault.{missing_after, missing_end}
+use Rattle.core_case.specs.Faults.{has_ended, judge}
+use Rattle.core_case.specs.declared.faults.RecordFault.TheVariants.{EndMissing, FirstNotCore}
+use Rattle.core_case.proofs.ReadingRows.{bad-is}
 use Rattle.core_case.proofs.read.ended.Goals as goal
 
-pub returns-else-has_ended-clause-fault : goal.returns-else-has_ended-clause-fault
-returns-else-has_ended-clause-fault c =
-    bad-is c.bad-else-has_ended.result (missing_end c.args.register.now) c.args.register.now c.len-else-has_ended.result EndMissing
-    c.bad-else-has_ended.ensures c.len-else-has_ended.ensures (end-missing c.args.register.now c.len.result c.len.ensures c.if-len-eq0.false c.if-has_ended.ensures)
+pub returns-in-Some-clause-fault : goal.returns-in-Some-clause-fault
+returns-in-Some-clause-fault c =
+    bad-is c.bad.result (missing_end judge c.args.register.now) c.in-Some.row c.in-Some.fault c.bad.ensures
+    (ap (λ n. missing_after n (has_ended c.args.register.now) FirstNotCore EndMissing) (sym c.len.ensures)
+    ∙ ap (λ b. missing_after c.len.result b FirstNotCore EndMissing) (sym c.has_ended.ensures) ∙ sym c.in-Some.ensures.missing)

@@ -1,5 +1,6 @@
 use Rattle.std.proofs.Common.{◌∙◌, sym, ap}
-use Rattle.core_case.specs.Faults.{first_fault, missing_end}
+use Rattle.core_rows.specs.FirstFault.{missing_end}
+use Rattle.core_case.specs.Faults.{first_fault, judge}
 use Rattle.core_book.specs.Inside.{book_view}
 use Rattle.core_case.specs.Refusals.{RefusesBytes}
 use Rattle.core_case.specs.declared.read.CaseFault.TheVariants.{NoMemory}
@@ -25,7 +26,7 @@ ended-requires c = few-registered c.args.bytes.now c.deref.result.now c.in_ok-re
 pub returns-in_err-ended-clause-refused : goal.returns-in_err-ended-clause-refused
 returns-in_err-ended-clause-refused c =
     error-same (λ fault. RefusesBytes fault c.args.bytes.now) c.from_residual-in_err-ended.result c.in_err-ended.field-0.0 c.from_residual-in_err-ended.ensures.1
-    (refused-is c.in_err-ended.field-0.0 c.args.bytes.now (missing_end c.in_ok-register.register) c.in_err-ended.ensures.fault
+    (refused-is c.in_err-ended.field-0.0 c.args.bytes.now (missing_end judge c.in_ok-register.register) c.in_err-ended.ensures.fault
     (fault-at_end c.args.bytes.now c.deref.result.now c.in_ok-register.register (c.deref.ensures.value ∙ c.in_ok-rows.ensures) c.in_ok-register.ensures.sound.0 c.in_ok-register.ensures.sound.1))
 
 pub state_book-requires : goal.state_book-requires

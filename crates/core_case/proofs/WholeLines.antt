@@ -23,7 +23,7 @@ use Rattle.core_case.proofs.FiledKeys.{one-kind}
 use Rattle.core_case.proofs.WholeRecords.{sound-of, number-between}
 use Rattle.core_case.proofs.NamesSound.{names-differ}
 use Rattle.core_case.proofs.NamesDeclared.{refers-declared, declared-before, declared-is, places-differ}
-use Rattle.core_case.proofs.NamesKept.{as-declared}
+use Rattle.core_case.proofs.WholeNames.{as-declared}
 
 -- a sign is 1 or -1
 sign-is : (b : Bool) → ((if b then pos 1 else negsuc 0) ≡ pos 1) ⊎ ((if b then pos 1 else negsuc 0) ≡ negsuc 0)
