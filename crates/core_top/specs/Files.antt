@@ -3,7 +3,7 @@ use Rattle.std.specs.Prelude.{◌≡◌, ℕ, ◌<◌, ◌≤◌, List, length, 
 use Rattle.core_book.specs.View.{CaseView}
 use Rattle.core_case.specs.Stated.{case_of_bytes}
 use Rattle.core_model.specs.declared.cert.Cert.{Cert}
-use Rattle.core_cert.specs.Written.{most_bytes}
+use Rattle.core_rows.specs.Fields.{most_bytes}
 use Rattle.core_cert.specs.Stated.{cert_of_bytes}
 use Rattle.core_top.specs.declared.answers.File.{File}
 use Rattle.core_top.specs.declared.answers.File.TheVariants as files
