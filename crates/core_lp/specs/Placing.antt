@@ -141,7 +141,7 @@ CannotLeaves most d r = CommonLeaves most (farkas_of d r)
 -- ---- the certificate of given numbers
 -- the numerators of a list over one denominator
 abbrev pub numerators_of : Scaled → Numerators
-numerators_of s = record { den = s.den; list = s.numbers.items }
+numerators_of s = record { den = s.den; list = s.nums }
 
 -- of the numbers of a last dictionary
 abbrev pub placed : CaseView → Parts → Cert

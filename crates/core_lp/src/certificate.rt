@@ -30,7 +30,7 @@ pub enum Parts {
 /// The loss of a calendar, from its numbers and that of the loss column. `TooWide` comes exactly where the fixed cash of
 /// day 0 times the denominator, or the loss, is above 2^127 - 1 in absolute value.
 fn loss_placed(case: &Case, primal: &Scaled, number: i128) -> Result<i128, DualFault>
-    requires { number ≡ of_column case.now (at primal.now.numbers.items) Loss }
+    requires { number ≡ of_column case.now (at primal.now.nums) Loss }
     ensures value { IfOk result (λ loss. loss ≡ loss_placed case.now (numerators_of primal.now)) }
     ensures stays { OnOk result (¬ (LossLeaves (2 ^ 127 - 1) case.now (numerators_of primal.now))) }
     ensures too_wide { result ≡ Err DualFault.TooWide
@@ -57,10 +57,11 @@ fn dual_weights(
     requires numbers { ArePositive (suc (length (row_names case.now))) (numerators_of duals.now) }
     ensures { IfOk result (λ w. w ≡ dual_weights case.now (numerators_of duals.now)) }
 {
-    // The horizon's contract says that the case is well-formed, so that it has a scenario.
-    case.horizon();
-    let mut rows = by_row(alloc, case, built, &duals.numbers[1..])?;
-    rows.loss.set(0, duals.numbers[0]);
+    // A well-formed case has a scenario.
+    case.well_formed();
+    let numbers = duals.nums.as_slice();
+    let mut rows = by_row(alloc, case, built, &numbers[1..])?;
+    rows.loss.set(0, numbers[0]);
     let full = line_weights(alloc, case, &rows)?;
     Ok(Weights {
         den: duals.den,
@@ -82,7 +83,7 @@ fn farkas_weights(
     requires numbers { ArePositive (length (row_names case.now)) (numerators_of farkas.now) }
     ensures { IfOk result (λ w. w ≡ farkas_weights case.now (numerators_of farkas.now)) }
 {
-    let rows = by_row(alloc, case, built, &farkas.numbers)?;
+    let rows = by_row(alloc, case, built, farkas.nums.as_slice())?;
     let full = line_weights(alloc, case, &rows)?;
     Ok(Weights {
         den: farkas.den,
@@ -100,8 +101,9 @@ fn farkas_weights(
 /// less that of its full row, and of collateral minus that of its full row. The cost of the loss column is the weight of
 /// the first scenario on day 0. Where a row cannot hold, no scenario has a weight.
 ///
-/// `TooWide` comes exactly where the fixed cash of day 0 times the denominator, or the loss, is above 2^127 - 1 in absolute
-/// value, and `NoMemory` for want of memory alone.
+/// `TooWide` comes exactly where the fixed cash of day 0 times the denominator, which is not printed, or the loss is above
+/// 2^127 - 1 in absolute value; a refusing certificate has no loss, so it has no such error. `NoMemory` comes for want of
+/// memory alone.
 pub fn cert_of(alloc: Global, case: &Case, built: &Built, parts: &Parts) -> Result<Cert, DualFault>
     requires built { built.now ≡ named_of case.now }
     requires parts { ArePartsOf case.now parts.now }
@@ -114,7 +116,7 @@ pub fn cert_of(alloc: Global, case: &Case, built: &Built, parts: &Parts) -> Resu
 {
     match parts {
         Parts::Optimal { primal, duals } => {
-            let columns = by_column(alloc, case, built, &primal.numbers)?;
+            let columns = by_column(alloc, case, built, primal.nums.as_slice())?;
             let loss = loss_placed(case, primal, columns.loss)?;
             Ok(Cert::Closes {
                 calendar: Calendar {

@@ -29,8 +29,8 @@ fn put_column(case: &Case, numbers: &mut ColumnNumbers, name: Col, number: i128)
     requires size { length numbers.old.amounts ≡ amount_count case.now }
     ensures { numbers.new ≡ with_column case.now numbers.old name number }
 {
-    // The horizon's contract says that the case is well-formed, so that its lines are few.
-    case.horizon();
+    // A well-formed case has few lines.
+    case.well_formed();
     match name {
         Col::Close { line, day, tier } => numbers
             .amounts

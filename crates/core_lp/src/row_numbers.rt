@@ -54,8 +54,8 @@ fn put_row(case: &Case, numbers: &mut RowNumbers, name: RowName, number: i128)
     requires sizes { AreSized case.now numbers.old }
     ensures { numbers.new ≡ with_number case.now numbers.old name number }
 {
-    // The horizon's contract says that the case is well-formed, so that it has few of each.
-    case.horizon();
+    // A well-formed case has few of each.
+    case.well_formed();
     match name {
         RowName::Full { line } => numbers.full.set(line, number),
         RowName::Back { line } => numbers.back.set(line, number),

@@ -72,8 +72,8 @@ pub(crate) fn lines(case: &Case) -> usize
     ensures count { result ≡ length case.now.lines }
     ensures few { result ≤ 64 }
 {
-    // The horizon's contract says that the case is well-formed, so that its lines are few.
-    case.horizon();
+    // A well-formed case has few lines.
+    case.well_formed();
     case.lines()
 }
 

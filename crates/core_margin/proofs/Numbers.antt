@@ -33,7 +33,7 @@ use Rattle.core_margin.specs.Last.{IsReached}
 -- ---- over a common denominator
 pub scaled_is : (qs : List Fraction) (s : Scaled) → IsOverCommon qs s
     → numerators_of s ≡ in_common qs
-scaled_is qs s h = λ i. record { den = h.den i; list = h.numbers i }
+scaled_is qs s h = λ i. record { den = h.den i; list = h.nums i }
 
 -- what 128 bits keep
 module _ (law : ListsAreOverCommon) (qs : List Fraction) (fits : ¬ (CommonLeaves most qs)) where

@@ -15,7 +15,7 @@ returns-in_ok-dual_weights-in-Optimal-clause-placed c =
     let case = c.args.case.now in
     let primal = c.in-Optimal.primal in
     let amounts = ap (λ v. v.amounts) (c.in_ok-columns-in-Optimal.ensures
-    ∙ ap (λ xs. by_column case (columns case) (at xs)) c.deref.ensures.value) in
+    ∙ ap (λ xs. by_column case (columns case) (at xs)) c.as_slice.ensures) in
     rw (
       to_z-of_z w128 primal.den (search rules),
       to_z-of_z w128 c.in_ok-loss-in-Optimal.loss (search rules),

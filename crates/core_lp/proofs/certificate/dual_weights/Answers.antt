@@ -15,11 +15,11 @@ use Rattle.core_lp.proofs.certificate.dual_weights.Goals as goal
 pub set-requires : goal.set-requires
 set-requires c =
     let case = c.args.case.now in
-    let kept = c.horizon.ensures.kept in
-    let rows = rows-of-rest case c.args.duals.now.numbers.items c.deref.result.now c.in_ok-rows.rows
-    c.deref.ensures.value c.in_ok-rows.ensures in
+    let kept = c.well_formed-2.ensures in
+    let rows = rows-of-rest case c.args.duals.now.nums c.as_slice-numbers.result.now c.in_ok-rows.rows
+    c.as_slice-numbers.ensures c.in_ok-rows.ensures in
     let sized = rows-sized case (row_names case)
-    (λ i. at c.args.duals.now.numbers.items (suc i)) c.in_ok-rows.rows rows in
+    (λ i. at c.args.duals.now.nums (suc i)) c.in_ok-rows.rows rows in
     let days : 1 ≤ suc case.last = omega arith in
     let some : 1 * 1 ≤ scenario_count case = mul-le-mul kept.scenarios.0 days in
     omega (arith, sized.loss, some)
@@ -27,10 +27,10 @@ set-requires c =
 pub line_weights-requires-clause-sizes : goal.line_weights-requires-clause-sizes
 line_weights-requires-clause-sizes c =
     let case = c.args.case.now in
-    let rows = rows-of-rest case c.args.duals.now.numbers.items c.deref.result.now c.in_ok-rows.rows
-    c.deref.ensures.value c.in_ok-rows.ensures in
+    let rows = rows-of-rest case c.args.duals.now.nums c.as_slice-numbers.result.now c.in_ok-rows.rows
+    c.as_slice-numbers.ensures c.in_ok-rows.ensures in
     let sized = rows-sized case (row_names case)
-    (λ i. at c.args.duals.now.numbers.items (suc i)) c.in_ok-rows.rows rows in
+    (λ i. at c.args.duals.now.nums (suc i)) c.in_ok-rows.rows rows in
     record {
       full = sized.full;
       back = sized.back;
@@ -42,32 +42,29 @@ line_weights-requires-clause-sizes c =
 pub line_weights-requires-clause-back : goal.line_weights-requires-clause-back
 line_weights-requires-clause-back c =
     let case = c.args.case.now in
-    let rows = rows-of-rest case c.args.duals.now.numbers.items c.deref.result.now c.in_ok-rows.rows
-    c.deref.ensures.value c.in_ok-rows.ensures in
-    back-weights case (λ i. at c.args.duals.now.numbers.items (suc i)) c.in_ok-rows.rows
+    let rows = rows-of-rest case c.args.duals.now.nums c.as_slice-numbers.result.now c.in_ok-rows.rows
+    c.as_slice-numbers.ensures c.in_ok-rows.ensures in
+    back-weights case (λ i. at c.args.duals.now.nums (suc i)) c.in_ok-rows.rows
     (ap (λ v. v.back) rows)
     (λ i. positive-at (suc (length (row_names case))) (numerators_of c.args.duals.now) c.requires.numbers (suc i))
 
 pub line_weights-requires-clause-full : goal.line_weights-requires-clause-full
 line_weights-requires-clause-full c =
     let case = c.args.case.now in
-    let rows = rows-of-rest case c.args.duals.now.numbers.items c.deref.result.now c.in_ok-rows.rows
-    c.deref.ensures.value c.in_ok-rows.ensures in
-    full-weights case (λ i. at c.args.duals.now.numbers.items (suc i)) c.in_ok-rows.rows
+    let rows = rows-of-rest case c.args.duals.now.nums c.as_slice-numbers.result.now c.in_ok-rows.rows
+    c.as_slice-numbers.ensures c.in_ok-rows.ensures in
+    full-weights case (λ i. at c.args.duals.now.nums (suc i)) c.in_ok-rows.rows
     (ap (λ v. v.full) rows)
     (λ i. positive-at (suc (length (row_names case))) (numerators_of c.args.duals.now) c.requires.numbers (suc i))
 
 pub returns : goal.returns
 returns c =
     let case = c.args.case.now in
-    let list = c.args.duals.now.numbers.items in
+    let list = c.args.duals.now.nums in
     let x = c.in_ok-rows.rows in
-    let rows = rows-of-rest case list c.deref.result.now x c.deref.ensures.value c.in_ok-rows.ensures in
-    let first : c.index.result.now ≡ at list 0 =
-    get_or_read list 0 c.index.result.now
-    (omega (arith, c.requires.numbers.numerators.count)) c.index.ensures (pos 0) in
-    let put : c.set.new.self ≡ set x.loss 0 (at list 0) =
-    c.set.ensures ∙ ap (set x.loss 0) (to_z-of_z w128 c.index.result.now (search rules) ∙ first) in
+    let rows = rows-of-rest case list c.as_slice-numbers.result.now x c.as_slice-numbers.ensures c.in_ok-rows.ensures in
+    let put : c.set.new.self ≡ set x.loss 0 (at list 0) = c.set.ensures
+    ∙ ap (set x.loss 0) (to_z-of_z w128 (at c.as_slice-numbers.result.now 0) (search rules) ∙ ap (λ xs. at xs 0) c.as_slice-numbers.ensures) in
     rw (to_z-of_z w128 c.args.duals.now.den (search rules))
     (dual-weights-are case c.args.duals.now.den (at list 0) (λ i. at list (suc i)) x c.set.new.self c.in_ok-full.full rows
     put c.in_ok-full.ensures)
