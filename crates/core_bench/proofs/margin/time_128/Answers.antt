@@ -3,6 +3,7 @@ use Rattle.core_dict.specs.Dictionary.{CostsNotNegative}
 use Rattle.core_dict.proofs.StartCosts.{start_costs}
 use Rattle.core_rules.specs.Candidates.{before}
 use Rattle.core_rules.specs.Rules.{rule_view}
+use Rattle.core_margin.specs.Last.{IsStanding}
 use Rattle.core_margin.proofs.Margins.{start_is, reached_at}
 use Rattle.core_bench.proofs.margin.time_128.Goals as goal
 
@@ -12,10 +13,10 @@ run-answer-requires-clause-costs g c =
 
 pub time_end-requires-clause-reached : goal.time_end-requires-clause-reached
 time_end-requires-clause-reached g c =
-    reached_at c.args.case.now (before (rule_view c.args.rule.now)) 100000
+    let case = c.args.case.now in
+    let same = c.in_ok-dict.ensures
+    ∙ start_is case c.programme.result.now c.args.built.now c.programme.ensures.value c.requires.built in
+    reached_at case (before (rule_view c.args.rule.now)) 100000
     (g.W.Store.dictionary c.in_ok-dict.dict) (g.W.Store.dictionary c.run-answer.new.dict)
-    c.in-Ok.end
-    (c.in_ok-dict.ensures
-    ∙ start_is c.args.case.now c.programme.result.now c.args.built.now c.programme.ensures.value
-    c.requires.built)
-    c.in-Ok.ensures.answer c.run_reaches.ensures
+    c.in-Ok.end c.in-Ok.ensures.answer c.run_reaches.ensures.reached
+    (subst (IsStanding case) (sym same) (c.run_reaches.ensures.start case))
