@@ -3,23 +3,9 @@ use core_case::read_case;
 use core_case_tests::books::TWO_SCENARIOS;
 use core_flows::Flows;
 use core_lp::{Built, build, ranks_of, variables};
+use core_run_tests::programmes::TWO_SCENARIOS as ROWS;
 use std::alloc::Global;
 use std::test::Fail;
-
-/// The rows of the programme of two scenarios: their numbers in the columns of the days 1 and 2 and of the loss, and
-/// their bounds.
-const ROWS: [([i64; 3], i64); 10] = [
-    ([1, 1, 0], 1),
-    ([-1, -1, 0], -1),
-    ([1, 0, 0], 1),
-    ([0, 1, 0], 1),
-    ([-8, 0, -1], 0),
-    ([-8, -2, -1], 0),
-    ([-8, -2, -1], -10),
-    ([-3, 0, -1], 0),
-    ([-3, -6, -1], 0),
-    ([-3, -6, -1], -10),
-];
 
 /// The names of its columns and of its rows, in their order.
 const COLS: [&str; 3] = [
