@@ -7,10 +7,12 @@ use Rattle.fractions.proofs.Values.{HasValue, value_reduce}
 use Rattle.core_model.specs.declared.cert.Cert.TheVariants.{Closes, Cannot}
 use Rattle.core_gen.specs.Closed.{demo_view}
 use Rattle.core_cert.specs.Written.{floored}
+use Rattle.core_margin.specs.declared.orders.Order.TheVariants.{LeastVariable}
+use Rattle.core_margin.specs.Last.{start_of}
+use Rattle.core_margin.specs.Orders.{preference}
 use Rattle.core_margin.specs.Outcomes.{MarginOutcome, Certificate, Common, Pivot, Spent}
 use Rattle.core_margin.specs.Laws.{OneMargin}
 use Rattle.core_top.specs.declared.answers.Reply.TheVariants as replies
-use Rattle.core_top.specs.Orders.{LeastVariable, preference}
 use Rattle.core_top.specs.Answers.{reply_text}
 use Rattle.core_top.specs.Margin.{default_budget}
 use Rattle.core_top.specs.Demo.{DemoWords, DemoComes, demo_answer, margin_ratio, DemoDue, closes, wide_pivot, wide_common, spent, IsRatio, DemoShows, least, pivot_leaves, cert_leaves, not_ended}
@@ -78,5 +80,5 @@ demo-one law words s s' t t' p q =
     let a = is-of words s t p in
     let b = is-of words s' t' q in
     let c = demo_view words.count in
-    let e : a.outcome ≡ b.outcome = law c (preference c LeastVariable) default_budget a.outcome b.outcome a.comes b.comes in
+    let e : a.outcome ≡ b.outcome = law c (preference c LeastVariable) default_budget (start_of c) a.outcome b.outcome a.comes b.comes in
     (a.is.0 ∙ ap status-of e ∙ sym b.is.0, a.is.1 ∙ ap (text-of words.count) e ∙ sym b.is.1)

@@ -7,28 +7,28 @@ use Rattle.core_io.specs.States.{ReadFailed}
 use Rattle.core_book.specs.View.{CaseView}
 use Rattle.core_case.specs.Stated.{case_of_bytes}
 use Rattle.core_rules.specs.Candidates.{lower_variable}
-use Rattle.core_run.specs.Run.{run, turn_at}
 use Rattle.core_run.specs.Laws.{BudgetIsEnough}
 use Rattle.core_lp.specs.CaseProgramme.{row_names, row_of}
 use Rattle.core_lp.specs.Ranks.{variable_count, as_numbered}
-use Rattle.core_margin.specs.Last.{start_of, IsReached}
+use Rattle.core_margin.specs.declared.orders.Order.{Order}
+use Rattle.core_margin.specs.declared.orders.Order.TheVariants.{LeastVariable, Kinds}
+use Rattle.core_margin.specs.Last.{start_of, IsStanding}
+use Rattle.core_margin.specs.Orders.{preference}
 use Rattle.core_margin.specs.Outcomes.{MarginOutcome, Certificate, Common, Pivot, Spent, MarginComesTo}
-use Rattle.core_margin.specs.Laws.{RunReaches, HouseOrderIsLeast}
+use Rattle.core_margin.specs.Laws.{StartStands, HouseOrderIsLeast}
 use Rattle.core_top.specs.declared.answers.File.TheVariants as files
 use Rattle.core_top.specs.Words.{is_name}
-use Rattle.core_top.specs.Orders.{RuleWord, LeastVariable, Kinds, preference}
 use Rattle.core_top.specs.Margin.{MarginWords, words_with, budget_of, MarginOf, certified, wide_pivot, wide_common, spent, MarginDue, GoesByNumber, IsNeverSpent}
 use Rattle.core_top.specs.Commands.{Command, Margin, IsDue}
 use Rattle.core_top.specs.Headline.{HouseOrderIsDue}
 use Rattle.core_top.proofs.AtFile.{at-file}
 
 -- ---- a budget of as many pivots as there are sets of variables
-module _ (budgets : BudgetIsEnough) (reaches : RunReaches) (house : HouseOrderIsLeast) where
+module _ (budgets : BudgetIsEnough) (starts : StartStands) (house : HouseOrderIsLeast) where
   least-not-spent : (c : CaseView) (budget : ℕ) → 2 ^ variable_count c ≤ budget → ¬ (MarginComesTo c lower_variable budget Spent)
-  unfolding run
   least-not-spent c budget enough =
-      let first : IsReached c (start_of c) (turn_at lower_variable (start_of c) 0) = reaches c lower_variable 0 in
-      budgets (start_of c) most budget first.of.variables first.costs (subst (λ (n : ℕ). 2 ^ n ≤ budget) same enough)
+      let first : IsStanding c (start_of c) = starts c in
+      budgets (start_of c) most budget first.dictionary.variables first.costs (subst (λ (n : ℕ). 2 ^ n ≤ budget) same enough)
     where
       same : variable_count c ≡ (start_of c).rows + (start_of c).cols
       same = omega (arith, length-map (row_names c) (row_of c))
@@ -37,17 +37,17 @@ module _ (budgets : BudgetIsEnough) (reaches : RunReaches) (house : HouseOrderIs
   never-spent c words goes enough comes = by_rule goes
     where
       by_rule : GoesByNumber words.rule → ⊥
-      by_rule (inl e) = least-not-spent c words.budget enough (subst (λ (r : RuleWord). MarginComesTo c (preference c r) words.budget Spent) e comes)
+      by_rule (inl e) = least-not-spent c words.budget enough (subst (λ (r : Order). MarginComesTo c (preference c r) words.budget Spent) e comes)
       by_rule (inr e) =
-          least-not-spent c words.budget enough ((house c words.budget Spent).0 (subst (λ (r : RuleWord). MarginComesTo c (preference c r) words.budget Spent) e comes))
+          least-not-spent c words.budget enough ((house c words.budget Spent).0 (subst (λ (r : Order). MarginComesTo c (preference c r) words.budget Spent) e comes))
 
 -- ---- what is due under both
 -- the words of a call under a rule
-abbrev under : List ℕ → ℕ → RuleWord → MarginWords
+abbrev under : List ℕ → ℕ → Order → MarginWords
 under case budget rule = record { case = case; budget = budget; rule = rule }
 
 -- what is due under a rule to a case that comes to the same under another
-of-same : (case : List ℕ) (budget : ℕ) (rule other : RuleWord) (c : CaseView)
+of-same : (case : List ℕ) (budget : ℕ) (rule other : Order) (c : CaseView)
     → ((o : MarginOutcome) → MarginComesTo c (preference c rule) budget o → MarginComesTo c (preference c other) budget o)
     → (s : ℕ) (t : List ℕ) → MarginOf (under case budget rule) c s t → MarginOf (under case budget other) c s t
 of-same case budget rule other c f s t (certified x comes fits plainly) = certified x (f (Certificate x) comes) fits plainly
@@ -55,7 +55,7 @@ of-same case budget rule other c f s t (wide_pivot k comes) = wide_pivot k (f (P
 of-same case budget rule other c f s t (wide_common comes) = wide_common (f Common comes)
 of-same case budget rule other c f s t (spent comes) = spent (f Spent comes)
 
-due-same : (case : List ℕ) (budget : ℕ) (rule other : RuleWord)
+due-same : (case : List ℕ) (budget : ℕ) (rule other : Order)
     → ((c : CaseView) (o : MarginOutcome) → MarginComesTo c (preference c rule) budget o → MarginComesTo c (preference c other) budget o)
     → (told : List ℕ → Option (List ℕ)) (rose : List ℕ → Type 0) (s : ℕ) (t : List ℕ) → MarginDue (under case budget rule) told rose s t → MarginDue (under case budget other) told rose s t
 due-same case budget rule other f told rose =
@@ -63,11 +63,11 @@ due-same case budget rule other f told rose =
     (λ c. of-same case budget rule other c (f c))
 
 -- the command of four words, by whether the second is a name and by what the others say
-abbrev said : List ℕ → Bool → Option ℕ → RuleWord → Option Command
+abbrev said : List ℕ → Bool → Option ℕ → Order → Option Command
 said case name budget rule =
     option_or (option_map Margin (if name then option_map (words_with case) (option_zip budget (Some rule)) else None)) None
 
-said-same : (case : List ℕ) (name : Bool) (budget : Option ℕ) (rule other : RuleWord)
+said-same : (case : List ℕ) (name : Bool) (budget : Option ℕ) (rule other : Order)
     → ((b : ℕ) (c : CaseView) (o : MarginOutcome) → MarginComesTo c (preference c rule) b o → MarginComesTo c (preference c other) b o)
     → (told : List ℕ → Option (List ℕ)) (rose : List ℕ → Type 0) (s : ℕ) (t : List ℕ) → IsDue (said case name budget rule) told rose s t → IsDue (said case name budget other) told rose s t
 said-same case true (Some b) rule other f told rose s t due = due-same case b rule other (f b) told rose s t due

@@ -13,11 +13,12 @@ use Rattle.core_check.proofs.Showing.{showing_is_valid}
 use Rattle.core_cert.proofs.CertSize.{cert_text-short}
 use Rattle.core_cert.proofs.RoundTrip.{cert_texts_read}
 use Rattle.core_lp.specs.Ranks.{variable_count}
+use Rattle.core_margin.specs.Last.{start_of}
+use Rattle.core_margin.specs.Orders.{preference}
 use Rattle.core_margin.specs.Outcomes.{MarginOutcome, Certificate, Common, Pivot, Spent}
 use Rattle.core_margin.specs.Laws.{MarginIsValid, OneMargin}
 use Rattle.core_top.specs.declared.answers.File.TheVariants as files
 use Rattle.core_top.specs.declared.answers.Reply.TheVariants as replies
-use Rattle.core_top.specs.Orders.{preference}
 use Rattle.core_top.specs.Answers.{reply_text, cert_status}
 use Rattle.core_top.specs.Files.{HasCase}
 use Rattle.core_top.specs.Margin.{MarginWords, Comes, MarginOf, certified, wide_pivot, wide_common, spent, MarginDue, IsReadBack, MarginShows, least, none, pivot_leaves, cert_leaves, not_ended, case_unread, GoesByNumber, IsNeverSpent}
@@ -114,7 +115,7 @@ margin-of-one : OneMargin → (words : MarginWords) (c : CaseView) (s s' : ℕ) 
 margin-of-one law words c s s' t t' p q =
     let a = is-of words c s t p in
     let b = is-of words c s' t' q in
-    let e : a.outcome ≡ b.outcome = law c (preference c words.rule) words.budget a.outcome b.outcome a.comes b.comes in
+    let e : a.outcome ≡ b.outcome = law c (preference c words.rule) words.budget (start_of c) a.outcome b.outcome a.comes b.comes in
     (a.is.0 ∙ ap status-of e ∙ sym b.is.0, a.is.1 ∙ ap (text-of words c) e ∙ sym b.is.1)
 
 pub margin-one : OneMargin → (told : List ℕ → Option (List ℕ)) (words : MarginWords) → IsSome (told words.case)

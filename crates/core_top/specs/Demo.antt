@@ -10,11 +10,12 @@ use Rattle.core_model.specs.declared.cert.Weights.{Weights}
 use Rattle.core_model.specs.declared.cert.Cert.TheVariants.{Closes}
 use Rattle.core_model.specs.Shows.{ShowsLeast}
 use Rattle.core_gen.specs.Closed.{demo_view}
+use Rattle.core_margin.specs.declared.orders.Order.TheVariants.{LeastVariable}
+use Rattle.core_margin.specs.Orders.{preference}
 use Rattle.core_margin.specs.Outcomes.{MarginOutcome, Certificate, Common, Pivot, Spent, MarginComesTo}
 use Rattle.core_cert.specs.Written.{floored}
 use Rattle.core_top.specs.declared.answers.Reply.TheVariants as replies
 use Rattle.core_top.specs.declared.demo.Words.{Words}
-use Rattle.core_top.specs.Orders.{LeastVariable, preference}
 use Rattle.core_top.specs.Answers.{reply_text}
 use Rattle.core_top.specs.Margin.{default_budget}
 use Rattle.core_top.specs.Around.{Around, Answered}

@@ -12,6 +12,9 @@ use Rattle.core_model.specs.Fits.{Fits, IsPlainlyRefusing}
 use Rattle.core_model.specs.Shows.{ShowsLeast, ShowsNone}
 use Rattle.core_model.specs.Check.{IsValid, verdict, Failed}
 use Rattle.core_lp.specs.Ranks.{variable_count, as_numbered}
+use Rattle.core_margin.specs.declared.orders.Order.{Order}
+use Rattle.core_margin.specs.declared.orders.Order.TheVariants.{LeastVariable, Kinds}
+use Rattle.core_margin.specs.Orders.{preference}
 use Rattle.core_margin.specs.Outcomes.{MarginOutcome, Certificate, Common, Pivot, Spent, MarginComesTo}
 use Rattle.core_cert.specs.Written.{cert_text}
 use Rattle.core_cert.specs.Stated.{cert_of_bytes}
@@ -19,7 +22,7 @@ use Rattle.core_top.specs.declared.answers.File.TheVariants as files
 use Rattle.core_top.specs.declared.answers.Reply.TheVariants as replies
 use Rattle.core_top.specs.declared.margin.Words.{Words}
 use Rattle.core_top.specs.Words.{is_name}
-use Rattle.core_top.specs.Orders.{RuleWord, LeastVariable, Kinds, rule_of, order_view, preference}
+use Rattle.core_top.specs.Orders.{rule_of}
 use Rattle.core_top.specs.Answers.{reply_text, cert_status}
 use Rattle.core_top.specs.Files.{file_limit, HasCase, AtCase}
 use Rattle.core_top.specs.Around.{Around, told, ShelfRose, Answered}
@@ -28,7 +31,7 @@ use Rattle.core_top.specs.Around.{Around, told, ShelfRose, Answered}
 pub record MarginWords : Type 0 where
   pub case : List ℕ
   pub budget : ℕ
-  pub rule : RuleWord
+  pub rule : Order
 
 -- a budget is a whole number that is not negative
 abbrev pub budget_from : Option ℤ → Option ℕ
@@ -43,13 +46,13 @@ abbrev pub default_budget : ℕ
 default_budget = 100000
 
 -- the budget and the rule of the words after the name: that budget and the least variable where they are not said
-abbrev pub limits_of : List (List ℕ) → Option (ℕ × RuleWord)
+abbrev pub limits_of : List (List ℕ) → Option (ℕ × Order)
 limits_of [] = Some (default_budget, LeastVariable)
 limits_of (budget ∷ []) = option_map (λ b. (b, LeastVariable)) (budget_of budget)
 limits_of (budget ∷ rule ∷ []) = option_zip (budget_of budget) (rule_of rule)
 limits_of _ = None
 
-abbrev pub words_with : List ℕ → ℕ × RuleWord → MarginWords
+abbrev pub words_with : List ℕ → ℕ × Order → MarginWords
 words_with case limits = record { case = case; budget = limits.0; rule = limits.1 }
 
 abbrev pub margin_words : List (List ℕ) → Option MarginWords
@@ -63,7 +66,7 @@ abbrev pub margin_words_view : Words → MarginWords
 margin_words_view words = record {
   case = words.case.now;
   budget = words.budget;
-  rule = order_view words.order;
+  rule = words.order;
 }
 
 -- a case comes to this under the rule and with the budget of the words
@@ -116,7 +119,7 @@ MarginGuarantees a words status = (c : CaseView) → HasCase (told a) words.case
     → Answered a (MarginShows (ShelfRose a) words c) status
 
 -- the rule of the least variable, also as the order of the kinds in which the variables are numbered
-abbrev pub GoesByNumber : RuleWord → Type 0
+abbrev pub GoesByNumber : Order → Type 0
 GoesByNumber rule = (rule ≡ LeastVariable) ⊎ (rule ≡ Kinds as_numbered)
 
 -- Under it a budget of as many pivots as there are sets of the programme's variables is never spent.

@@ -9,11 +9,10 @@ ghost use Rattle.core_top.specs.Demo.{count_of, demo_answer, demo_words_view, de
 
 use crate::answers::{Answer, Reply, one};
 use crate::margin::BUDGET;
-use crate::orders::{Order, margin_by};
 use crate::stop::Stop;
 use core_case::{Case, read_case};
 use core_gen::{demo_case, demo_case_law};
-use core_margin::MarginFault;
+use core_margin::{MarginFault, Order, margin_by};
 use core_model::Cert;
 use core_rows::{put_row, whole};
 use exact_frac::{Exact, Frac128};

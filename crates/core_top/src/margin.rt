@@ -3,19 +3,18 @@ ghost use Rattle.std.specs.Prelude.{◌≡◌, None, Some, IfNone, IfSome};
 ghost use Rattle.core_io.specs.States.{KeepsBytes, KeepsCounts};
 ghost use Rattle.core_margin.specs.Laws.{MarginIsValid};
 ghost use Rattle.core_top.specs.Words.{words_of};
-ghost use Rattle.core_top.specs.Orders.{order_view};
 ghost use Rattle.core_top.specs.Answers.{ComesTo};
 ghost use Rattle.core_top.specs.Around.{Between};
 ghost use Rattle.core_top.specs.Margin.{budget_of, limits_of, margin_words, margin_words_view, MarginDue, MarginOf, IsNeverSpent};
 
 use crate::answers::{Answer, Reply, cert_status};
 use crate::files::case_under;
-use crate::orders::{Order, margin_by, order_of};
+use crate::orders::order_of;
 use crate::stop::Stop;
 use core_case::Case;
 use core_cert::write_cert;
 use core_io::Shelf;
-use core_margin::{MarginFault, order_laws, run_reaches, valid_margins};
+use core_margin::{MarginFault, Order, margin_by, order_laws, run_reaches, valid_margins};
 use core_rows::whole;
 use core_run::least_variable_laws;
 use std::alloc::Global;
@@ -43,7 +42,7 @@ fn budget_of(word: &str) -> Option<u64>
 fn limits_of(words: &[String]) -> Option<(u64, Order)>
     ensures none { IfNone result (limits_of (words_of words.now) ≡ None) }
     ensures some { IfSome result (λ limits. limits_of (words_of words.now)
-        ≡ Some (limits.0, order_view limits.1)) }
+        ≡ Some limits) }
 {
     match words {
         [] => Some((BUDGET, Order::LeastVariable)),
