@@ -33,8 +33,7 @@ module _ (c : CaseView) (better : Preference) (budget : ℕ) (d : Dictionary) wh
           → (q : MarginOutcome) × LeadsTo c better budget d q
       by (inl leaves) = (Common, record { pivots = k; turn = t; ended = h; leaves = leaves })
       by (inr fits) =
-          let f = cert_of_end c (run better d k) t h.1.ends in
-          (
+          let f = cert_of_end c (run better d k) t h.1.ends in (
             Certificate f.0,
             (
               run better d k,

@@ -79,7 +79,9 @@ fn margin_by_kinds(
             new < old || (new == old && next.var < kept.var)
         },
     );
-    margin_of_programme_over::<Sparse<Frac64>, Sparse<Frac128>, _>(alloc, case, &built, &rule, budget)
+    margin_of_programme_over::<Sparse<Frac64>, Sparse<Frac128>, _>(
+        alloc, case, &built, &rule, budget,
+    )
 }
 
 /// The margin of a case under a rule by name: see [`margin`](crate::margin), whose errors and claims it has. With
